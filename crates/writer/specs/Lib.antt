@@ -1,1 +1,4 @@
 pub mod Meaning
+pub mod Area
+pub mod Stores
+pub mod Planned

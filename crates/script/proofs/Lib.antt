@@ -1,0 +1,5 @@
+pub mod Splits
+pub mod Readings
+pub mod Forms
+pub mod RoundTrip
+pub mod OneLines
