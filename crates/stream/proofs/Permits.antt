@@ -106,10 +106,10 @@ module _ {V : Type 0} (writes : V → List ℕ → WriteAnswer → V → Type 0)
       go : TakesOrFails n u → Held n s u
       go (inl k) = inl k
       go (inr (f, e)) =
-          inr (f, e, record { before = t; after = u; permitted = t .free; earlier = run; was-open = takes-open n t h; turn = (r, d); then-faulted = rw e; later = none })
+          inr (f, e, record { before = t; after = u; permitted = t .free; earlier = run; was-open = takes-open n t h; turn = (r, d); then-faulted = rw e; later = none; untold = rw e })
   turn-held {s} n t u run (r, d) (inr (f, e, o)) =
       let same : u ≡ t = stopped-stays t r u (rw e) d in
-      inr (f, ap (λ v. v .status) same ∙ e, record { before = o .before; after = o .after; permitted = o .permitted; earlier = o .earlier; was-open = o .was-open; turn = o .turn; then-faulted = o .then-faulted; later = more (o .later) (r, d) })
+      inr (f, ap (λ v. v .status) same ∙ e, record { before = o .before; after = o .after; permitted = o .permitted; earlier = o .earlier; was-open = o .was-open; turn = o .turn; then-faulted = o .then-faulted; later = more (o .later) (r, d); untold = rw (ap (λ v. v .status) same ∙ e) })
 
   turns-held : {s t : WorkerView V} (n : ℕ) → HostTurns (TurnedOnce writes flushes) s t → Takes n s → Held n s t
   unfolding Held

@@ -1,5 +1,5 @@
 -- The rules that bind every output stream, over its view. Assumes nothing.
---   FaultOfTurn   some turn between two views met this fault: the stream was open before that turn and faulted after it
+--   FaultOfTurn   some turn between two views met this fault, which is not told yet: the stream was open before that turn and faulted after it
 --   Honoured      a write under a permit is accepted, or answers the fault of such a turn
 --   PermitRule    a permit holds over any host turns
 --   FlushRule     while a flush is in progress nothing is permitted and no write is accepted
@@ -31,6 +31,7 @@ module _ {V : Type 0} (meaning : V → Meaning) (turned : V → V → Type 0) wh
     pub turn : turned before after
     pub then-faulted : meaning after ≡ faulted f
     pub later : HostTurns turned after t
+    pub untold : meaning t ≡ faulted f
 
   abbrev pub Honoured : V → V → Result (Unit {0}) StreamError → Type 0
   Honoured s t (Ok x) = Unit {0}

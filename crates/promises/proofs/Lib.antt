@@ -1,0 +1,10 @@
+pub mod Streams
+pub mod View
+pub mod Accounting
+pub mod Queue
+pub mod FlushMark
+pub mod Weight
+pub mod Patience
+pub mod Rounds
+pub mod PromisesHold
+pub mod Examples

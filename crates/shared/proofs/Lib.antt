@@ -1,0 +1,6 @@
+pub mod Lines
+pub mod Tables
+pub mod Operating
+pub mod Asked
+pub mod Granted
+pub mod Polling

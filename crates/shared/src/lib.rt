@@ -1,0 +1,2 @@
+// Several handles over one output stream.
+pub mod locked_async;

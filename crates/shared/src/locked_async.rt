@@ -1,0 +1,4 @@
+// The shared stream: a fair lock, the handles that share a stream under it, and the calls of both.
+pub mod lock;
+pub mod parts;
+pub mod table;
