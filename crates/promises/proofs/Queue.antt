@@ -89,7 +89,7 @@ pub holder-in-queue : (i : ℕ) (q : List ℕ) → holds i q ≡ true → 0 < oc
 holder-in-queue i [] h = grind arith
 holder-in-queue i (x ∷ q) h = grind arith
 
-count-queued-set : (hs : List HandleView) (i : ℕ) (x : HandleView) → i < length hs → count-queued (set hs i x) + queued (getD hs i dropped .state) ≡ count-queued hs + queued (x .state)
+pub count-queued-set : (hs : List HandleView) (i : ℕ) (x : HandleView) → i < length hs → count-queued (set hs i x) + queued (getD hs i dropped .state) ≡ count-queued hs + queued (x .state)
 count-queued-set [] i x h = absurd (omega arith)
 count-queued-set (y ∷ hs) zero x h = omega arith
 count-queued-set (y ∷ hs) (suc i) x h = let k = count-queued-set hs i x (omega arith) in omega arith
@@ -97,7 +97,7 @@ count-queued-set (y ∷ hs) (suc i) x h = let k = count-queued-set hs i x (omega
 queued-le : (st : HandleState) → queued st ≤ 1
 queued-le st = grind arith
 
-count-queued-le : (hs : List HandleView) → count-queued hs ≤ length hs
+pub count-queued-le : (hs : List HandleView) → count-queued hs ≤ length hs
 count-queued-le [] = omega arith
 count-queued-le (x ∷ hs) = let k = count-queued-le hs in let l = queued-le (x .state) in omega arith
 
@@ -167,19 +167,19 @@ there-below i l n = go (decLt i (length (l .handles)))
     go (no h) = absurd (n (ap (λ (x : HandleView). x .state) (List·getD-eq-default (l .handles) dropped (omega arith))))
 
 module _ (h : ℕ) (l : Lock) (k : QueueInvariant h l) where
-  stays-invariant : (i : ℕ) (st : HandleState) (mark : Bool) → queued st ≡ 1 → Open i l → QueueInvariant h (put i (in-state st mark) (entry i l) l)
+  pub stays-invariant : (i : ℕ) (st : HandleState) (mark : Bool) → queued st ≡ 1 → Open i l → QueueInvariant h (put i (in-state st mark) (entry i l) l)
   stays-invariant i st mark one o =
       let n = entered h i l k o in
       put-invariant h l i (in-state st mark) (entry i l) k (open-below i l o) (n .once ∙ sym one) (n .others) (let m = n .longer in omega arith)
 
-  hands-on-invariant : (i : ℕ) (st : HandleState) (mark : Bool) → queued st ≡ 0 → Open i l → QueueInvariant h (put i (in-state st mark) (without i (entry i l)) l)
+  pub hands-on-invariant : (i : ℕ) (st : HandleState) (mark : Bool) → queued st ≡ 0 → Open i l → QueueInvariant h (put i (in-state st mark) (without i (entry i l)) l)
   hands-on-invariant i st mark out o =
       let n = entered h i l k o in
       let q = entry i l in
       put-invariant h l i (in-state st mark) (without i q) k (open-below i l o) (occurrences-without-same i q ∙ sym out)
       (λ j ne. occurrences-without-other i j q ne ∙ n .others j ne) (let a = n .longer in let m = length-without i q in let c = n .once in omega arith)
 
-  drop-invariant : (i : ℕ) → ¬ (state-of i l ≡ Dropped) → QueueInvariant h (put i dropped (without i (l .queue)) l)
+  pub drop-invariant : (i : ℕ) → ¬ (state-of i l ≡ Dropped) → QueueInvariant h (put i dropped (without i (l .queue)) l)
   drop-invariant i n =
       let q = l .queue in
       put-invariant h l i dropped (without i q) k (there-below i l n) (occurrences-without-same i q)

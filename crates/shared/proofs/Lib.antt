@@ -4,3 +4,4 @@ pub mod Operating
 pub mod Asked
 pub mod Granted
 pub mod Polling
+pub mod Queues

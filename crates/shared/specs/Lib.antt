@@ -5,3 +5,4 @@ pub mod PartsOf
 pub mod Operations
 pub mod Acquiring
 pub mod GivingBack
+pub mod SharedOf

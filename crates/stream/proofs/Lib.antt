@@ -2,3 +2,5 @@ pub mod Cuts
 pub mod Oldest
 pub mod Pushed
 pub mod Permits
+pub mod Pipes
+pub mod UnderPermit

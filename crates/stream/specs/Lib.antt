@@ -12,3 +12,5 @@ pub mod WorkerCalls
 pub mod WorkerTurn
 pub mod WorkerOf
 pub mod WriterCall
+pub mod PipeView
+pub mod WritePermitted

@@ -15,6 +15,8 @@ pub enum Trap {
     OverBudget,
     // A write while 256 writes are unfinished.
     TooManyWrites,
+    // A pipe write longer than the room left.
+    NoRoom,
 }
 
 #[derive(Clone, Copy, PartialEq, Eq, Debug)]
@@ -37,6 +39,7 @@ impl StreamError {
             StreamError::Trap(Trap::FlushPending) => 11,
             StreamError::Trap(Trap::OverBudget) => 12,
             StreamError::Trap(Trap::TooManyWrites) => 13,
+            StreamError::Trap(Trap::NoRoom) => 14,
         }
     }
 }

@@ -75,6 +75,13 @@ impl Table {
         }
     }
 
+    // How many handles there are, dropped ones too.
+    pub fn len(&self) -> usize
+        ensures { λ r. ⌜ r ≡ length (handles-of (now (self .entry))) ⌝ }
+    {
+        self.count
+    }
+
     // A handle by its number; one that there is not reads as dropped.
     pub fn get(&self, number: usize) -> StdoutHandle
         ensures { λ r. ⌜ r ≡ getD (handles-of (now (self .entry))) number dropped ⌝ }

@@ -12,6 +12,6 @@ second-stage-requires g c κs =
     let s = parts-view (O .view) (record { stream = c .begin-flush .last .stream; lock = p .lock; table = p .table }) in
     let t = parts-view (O .view) (c .give-back .last .self) in
     record {
-      room = λ ready. room-again (c .args .number) s t true _ (c .pre .holder) (omega (arith, p .lock .within, length-take (p .lock .len) (p .lock .queue))) (c .give-back .ensures);
-      state = ready-again (c .args .number) s t true _ (c .pre .there) (c .give-back .ensures);
+      room = λ ready. room-again (c .args .number) s t true (c .get-mark .result .mark) (c .pre .holder) (omega (arith, p .lock .within, length-take (p .lock .len) (p .lock .queue))) (c .give-back .ensures);
+      state = ready-again (c .args .number) s t true (c .get-mark .result .mark) (c .pre .there) (c .give-back .ensures);
     }
