@@ -5,3 +5,4 @@ pub mod Asked
 pub mod Granted
 pub mod Polling
 pub mod Queues
+pub mod Runs

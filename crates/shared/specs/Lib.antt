@@ -6,3 +6,5 @@ pub mod Operations
 pub mod Acquiring
 pub mod GivingBack
 pub mod SharedOf
+pub mod Calls
+pub mod Running

@@ -13,3 +13,4 @@ pub struct AsyncStdoutStream<S> {
 }
 
 pub mod calls;
+pub mod worker;

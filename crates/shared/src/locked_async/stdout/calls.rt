@@ -65,28 +65,28 @@ impl<S: OutputStream> AsyncStdoutStream<S> {
     }
 
     // Polls a handle's write.
-    pub(crate) fn poll_write(&mut self, handle: usize, bytes: &[u8]) -> Result<Poll<usize>, HandleError>
+    pub fn poll_write(&mut self, handle: usize, bytes: &[u8]) -> Result<Poll<usize>, HandleError>
         ensures { λ r. ⌜ Gives (poll-write meaning checked wrote handle (now (bytes .entry)) (shared-view view (now (self .entry)))) r (shared-view view (now (self .exit))) ⌝ }
     {
         self.parts.poll_write(handle, bytes)
     }
 
     // Polls a handle's flush.
-    pub(crate) fn poll_flush(&mut self, handle: usize) -> Result<Poll<()>, HandleError>
+    pub fn poll_flush(&mut self, handle: usize) -> Result<Poll<()>, HandleError>
         ensures { λ r. ⌜ Gives (poll-flush meaning checked flushed handle (shared-view view (now (self .entry)))) r (shared-view view (now (self .exit))) ⌝ }
     {
         self.parts.poll_flush(handle)
     }
 
     // Drops a handle, for good.
-    pub(crate) fn drop_handle(&mut self, handle: usize) -> Result<(), HandleError>
+    pub fn drop_handle(&mut self, handle: usize) -> Result<(), HandleError>
         ensures { λ r. ⌜ Gives (drop-handle handle (shared-view view (now (self .entry)))) r (shared-view view (now (self .exit))) ⌝ }
     {
         self.parts.drop_handle(handle)
     }
 
     // The state of a handle, of a dropped one too.
-    pub(crate) fn handle_state(&self, handle: usize) -> Result<HandleState, HandleError>
+    pub fn handle_state(&self, handle: usize) -> Result<HandleState, HandleError>
         ensures { λ r. ⌜ r ≡ state-answer handle (shared-view view (now (self .entry))) ⌝ }
     {
         if handle < self.parts.table.len() {
