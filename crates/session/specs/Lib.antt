@@ -1,2 +1,4 @@
-pub mod Session
-pub mod SessionOf
+pub mod Printing
+pub mod Reading
+pub mod ReadingOf
+pub mod Scripts

@@ -1,5 +1,7 @@
-// Plays a script over the worker stream: each line is parsed, its call is made, and its answer kept.
+// Plays a script over the shared stream: its lines are read into calls, the calls are run, and each line gets its answer.
 pub mod play;
-pub mod session;
+pub mod printing;
+pub mod reading;
+pub mod slot;
 
 pub use play::run_script;

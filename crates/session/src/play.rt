@@ -1,47 +1,81 @@
-// A whole script: its first line, then one answer for each line. Relies on `session`.
-ghost use mathlib.Core.List.{[], _∷_};
+// A whole script: its first line, the calls of the others, and one answer for each line. Relies on `run`, which keeps the promises.
+ghost use mathlib.Core.List.{List, [], _∷_};
 ghost use mathlib.Core.Path.{_≡_};
+ghost use lib.ListN.{drop};
 ghost use Rattle.script.specs.Lines.{lines};
-ghost use Rattle.session.specs.Session.{Stage, Plays, start, ScriptAnswers, OneEach};
-ghost use Rattle.session.specs.SessionOf.{stage};
+ghost use Rattle.session.specs.declared.slot.Slot.{Slot};
+ghost use Rattle.session.specs.Reading.{read-lines, unread, merged};
+ghost use Rattle.session.specs.ReadingOf.{read-of};
+ghost use Rattle.session.specs.Scripts.{Played, ScriptAnswers, OneEach};
 ghost use Rattle.std.specs.Of.Vec.{vec-items};
 ghost use Rattle.std.specs.Vec.{made};
+use crate::printing::print;
+use crate::reading::Reading;
+use crate::slot::Slot;
 use script::Answer;
 use script::next_line;
 use script::parse_limits;
-use crate::session::Session;
+use shared::run::run;
 use std::alloc::AllocError;
 use std::alloc::Global;
 use stream::Limits;
-use writer::memory::MemoryWriter;
-use writer::planned::PlannedWriter;
+use writer::memory::calls::MemoryIsWriter;
+use writer::planned::calls::PlannedIsWriter;
 
-// How many bytes the writer has room for.
-const MEMORY: usize = 32768;
-
-// The session before the first command: nothing planned, and an empty memory.
-fn begin(heap: Global, limits: Limits) -> Result<Session, AllocError>
-    ensures { λ r. ⌜ made r (λ s. stage s ≡ start (limits .budget)) ⌝ }
+// Reads the lines after the first.
+fn read_lines<'a>(heap: Global, text: &'a [u8]) -> Result<Reading<'a>, AllocError>
+    ensures { λ r. ⌜ made r (λ x. read-of x ≡ read-lines unread (lines (now (text .entry)))) ⌝ }
 {
-    let memory = vec![in heap; 0u8; MEMORY]?;
-    let writer = PlannedWriter::new(MemoryWriter::new(memory));
-    Ok(Session::Planning(limits, writer))
-}
-
-// The answers to the lines after the first.
-fn play(heap: Global, limits: Limits, text: &[u8]) -> Result<Vec<Answer>, AllocError>
-    ensures { λ r. ⌜ made r (λ v. ((t : Stage) × Plays (lines (now (text .entry))) (start (limits .budget)) (vec-items v) t)) ⌝ }
-{
-    let mut session = begin(heap, limits)?;
-    let mut answers = Vec::new(heap);
+    let mut reading = Reading::new(heap)?;
     let mut rest = text;
     while let Some((line, more)) = next_line(rest) {
-        let (answer, next) = session.answer(line);
-        session = next;
-        answers.push(answer)?;
+        reading.read(line)?;
         rest = more;
     }
+    Ok(reading)
+}
+
+// What a line prints; the replies before `next` are printed already.
+fn answer_of(slot: Slot, replies: &[shared::Answer], next: &mut usize) -> Answer
+    ensures { λ r. ⌜ ((more : List Slot) → merged (slot ∷ more) (drop (now (next .entry)) (now (replies .entry))) ≡ r ∷ merged more (drop (now (next .exit)) (now (replies .entry)))) ⌝ }
+{
+    match slot {
+        Slot::Said(answer) => answer,
+        Slot::Called => {
+            let at = *next;
+            if at < replies.len() {
+                *next = at + 1;
+                return print(replies[at]);
+            }
+            Answer::Misfit
+        }
+    }
+}
+
+// What is printed: what was said, and the replies in their order.
+fn merge(heap: Global, slots: &[Slot], replies: &[shared::Answer]) -> Result<Vec<Answer>, AllocError>
+    ensures { λ r. ⌜ made r (λ v. vec-items v ≡ merged (now (slots .entry)) (now (replies .entry))) ⌝ }
+{
+    let mut answers = Vec::new(heap);
+    let mut next = 0;
+    for slot in slots {
+        let answer = answer_of(*slot, replies, &mut next);
+        answers.push(answer)?;
+    }
     Ok(answers)
+}
+
+// Reads the lines after the first, runs their calls, and prints.
+fn play(heap: Global, limits: Limits, text: &[u8]) -> Result<Vec<Answer>, AllocError>
+    ensures { λ r. ⌜ made r (λ v. Played (limits .budget) (limits .handles) (read-lines unread (lines (now (text .entry)))) (vec-items v)) ⌝ }
+{
+    let reading = read_lines(heap, text)?;
+    let Reading { writer, slots, calls } = reading;
+    let room = Vec::with_capacity(heap, calls.len())?;
+    match run(limits, writer, calls.as_slice(), room) {
+        Ok(outcome) => merge(heap, slots.as_slice(), outcome.answers.as_slice()),
+        Err(_) => unreachable(),
+    }
 }
 
 // The one answer of a script that does not begin.
