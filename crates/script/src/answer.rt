@@ -17,7 +17,7 @@ pub enum Answer {
     // A handle's call is done, or has to wait.
     Done,
     Wait,
-    // A turn ended a write of this length.
+    // A turn finished a write of this length.
     Finished(usize),
     // A turn handed down so many bytes of a write that has more.
     Moved(usize),

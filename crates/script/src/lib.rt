@@ -13,6 +13,3 @@ pub use command::Command;
 pub use lines::next_line;
 pub use parse::parse_command;
 pub use parse::parse_limits;
-
-#[cfg(test)]
-mod tests;

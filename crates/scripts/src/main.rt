@@ -15,7 +15,13 @@ fn play(rt: &LibcRuntime, path: &str) -> Result<(), AnyError> {
 }
 
 fn main(rt: LibcRuntime) -> Result<(), AnyError> {
-    for path in ["handover.script", "slow-writer.script", "fault.script"] {
+    for path in [
+        "handover.script",
+        "slow-writer.script",
+        "fault.script",
+        "two-hooks.script",
+        "flush-after-write.script",
+    ] {
         play(&rt, path)?;
     }
     Ok(())

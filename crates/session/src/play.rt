@@ -53,7 +53,11 @@ fn answer_of(slot: Slot, replies: &[shared::Answer], next: &mut usize) -> Answer
 }
 
 // What is printed: what was said, and the replies in their order.
-fn merge(heap: Global, slots: &[Slot], replies: &[shared::Answer]) -> Result<Vec<Answer>, AllocError>
+fn merge(
+    heap: Global,
+    slots: &[Slot],
+    replies: &[shared::Answer],
+) -> Result<Vec<Answer>, AllocError>
     ensures { λ r. ⌜ made r (λ v. vec-items v ≡ merged (now (slots .entry)) (now (replies .entry))) ⌝ }
 {
     let mut answers = Vec::new(heap);
@@ -70,7 +74,11 @@ fn play(heap: Global, limits: Limits, text: &[u8]) -> Result<Vec<Answer>, AllocE
     ensures { λ r. ⌜ made r (λ v. Played (limits .budget) (limits .handles) (read-lines unread (lines (now (text .entry)))) (vec-items v)) ⌝ }
 {
     let reading = read_lines(heap, text)?;
-    let Reading { writer, slots, calls } = reading;
+    let Reading {
+        writer,
+        slots,
+        calls,
+    } = reading;
     let room = Vec::with_capacity(heap, calls.len())?;
     match run(limits, writer, calls.as_slice(), room) {
         Ok(outcome) => merge(heap, slots.as_slice(), outcome.answers.as_slice()),

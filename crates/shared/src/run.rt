@@ -25,7 +25,12 @@ pub struct RunOutcome<W> {
 
 // Makes a shared stream from limits and a writer, performs the calls, and keeps their answers in `room`.
 // Where `room` has not the capacity for all answers, no call is made, and writer and room come back as they were.
-pub fn run<W: Writer>(limits: Limits, writer: W, calls: &[Call], room: Vec<Answer>) -> Result<RunOutcome<W>, (W, Vec<Answer>)>
+pub fn run<W: Writer>(
+    limits: Limits,
+    writer: W,
+    calls: &[Call],
+    room: Vec<Answer>,
+) -> Result<RunOutcome<W>, (W, Vec<Answer>)>
     ensures { λ r. ⌜ Cases r (λ o. (length (now (calls .entry)) ≤ vec-cap room) × Ran taken covered writes flushes (limits .budget) (limits .handles) (view writer) (map call-view (now (calls .entry))) (vec-items (o .answers)) (shared-view (worker-view view) (o .stream))) (λ back. (vec-cap room < length (now (calls .entry))) × (back .0 ≡ writer) × (back .1 ≡ room)) ⌝ }
 {
     if room.capacity() < calls.len() {

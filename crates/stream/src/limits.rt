@@ -11,5 +11,5 @@ pub struct Limits {
     ghost few: { handles ≤ 16 },
 }
 
-pub mod refusal;
 pub mod makes;
+pub mod refusal;

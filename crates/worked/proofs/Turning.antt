@@ -65,14 +65,14 @@ flush-told (AtMost k ∷ rest) a = record { told = record { told = refl; left = 
 flush-told (NotYet ∷ rest) a = record { told = refl; left = refl }
 flush-told (Fail code ∷ rest) a = record { told = refl; left = refl }
 
-abbrev does : Work → Stream → Outcome (PlannedView Area)
+abbrev pub does : Work → Stream → Outcome (PlannedView Area)
 does stop s = outcome Stopped s
 does finish-empty s = finishes s
 does (offer part) s = let w = write-of (s .writer .plan) (s .writer) part in after-write (w .answer) (length part) (with-writer (w .writer) s)
 does flush-writer s = let w = flush-of (s .writer .plan) (s .writer) in after-flush (w .answer) (with-writer (w .writer) s)
 does nothing s = outcome Idle s
 
-does-so : (w : Work) (s : Stream) → Does writes flushes w s (does w s .word) (does w s .view)
+pub does-so : (w : Work) (s : Stream) → Does writes flushes w s (does w s .word) (does w s .view)
 does-so stop s = record { word = refl; view = refl }
 does-so finish-empty s = record { word = refl; view = refl }
 does-so (offer part) s =

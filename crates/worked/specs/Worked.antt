@@ -8,8 +8,18 @@ use Rattle.std.specs.declared.result.Result.the-variants.{Ok, Err}
 use Rattle.writer.specs.declared.answer.Fault.the-variants.{WriteZero, Device}
 use Rattle.writer.specs.declared.plan.PlanEntry.the-variants.{AtMost, Fail}
 use Rattle.stream.specs.declared.error.StreamError.the-variants.{LastOperationFailed, Closed, Trap}
-use Rattle.stream.specs.declared.error.Trap.the-variants.{FlushPending, OverBudget, TooManyWrites}
+use Rattle.stream.specs.declared.error.Trap.the-variants.{FlushPending, OverBudget, TooManyWrites, NoRoom}
 use Rattle.stream.specs.declared.write_stream.job.Turn.the-variants.{Stopped, Finished, Moved, Flushed, Failed}
+use Rattle.std.specs.declared.option.Option.the-variants.{Some, None}
+use mathlib.Core.Path.{_≡_}
+use Rattle.stream.specs.declared.limits.refusal.LimitsError.the-variants.{BudgetTooLarge, HandlesOutOfRange}
+use Rattle.stream.specs.LimitsRules.{refusal}
+use Rattle.stream.specs.Meaning.{permit, flush-answer}
+use Rattle.stream.specs.PipeView.{PipeView, fresh as pipe, meaning as pipe-meaning, accepts as pipe-accepts, wrote as pipe-wrote}
+use Rattle.promises.specs.declared.direct.DirectError.the-variants.{LockHeld}
+use Rattle.promises.specs.declared.handle.Poll.the-variants.{Ready, Pending}
+use Rattle.promises.specs.Events.{check as checked, turn as turned, handle-write}
+use Rattle.worked.specs.Happens.{Happens, shared}
 use Rattle.worked.specs.Shows.{Did, write, check-write, flush, cancel, turn, free, ready, Shows, memory, stream}
 
 abbrev pub two : List ℕ
@@ -17,6 +27,26 @@ two = 97 ∷ 98 ∷ []
 
 abbrev pub four : List ℕ
 four = 97 ∷ 98 ∷ 99 ∷ 100 ∷ []
+
+abbrev pub three : List ℕ
+three = 97 ∷ 98 ∷ 99 ∷ []
+
+-- a pipe of three bytes
+abbrev pub small-pipe : PipeView
+small-pipe = pipe (0 ∷ 0 ∷ 0 ∷ [])
+
+pub record FullPipe : Type 0 where
+  pub too-long : pipe-accepts small-pipe four ≡ Err (Trap NoRoom)
+  pub whole : pipe-accepts small-pipe three ≡ Ok tt
+  pub no-permit : permit (pipe-meaning (pipe-wrote small-pipe three)) ≡ Err Closed
+  pub no-flush : flush-answer (pipe-meaning (pipe-wrote small-pipe three)) ≡ Err Closed
+  pub no-write : pipe-accepts (pipe-wrote small-pipe three) [] ≡ Err Closed
+
+pub record LimitsRefused : Type 0 where
+  pub budget : refusal 4097 1 ≡ Some BudgetTooLarge
+  pub no-handle : refusal 4 0 ≡ Some HandlesOutOfRange
+  pub many-handles : refusal 4 17 ≡ Some HandlesOutOfRange
+  pub largest : refusal 4096 16 ≡ None
 
 pub record Worked : Type 0 where
   pub whole-budget : Shows (stream 4 (memory 8 [])) (write four (Ok tt) ∷ [])
@@ -33,3 +63,8 @@ pub record Worked : Type 0 where
   pub no-budget : Shows (stream 0 (memory 8 [])) (flush (Ok tt) ∷ turn Flushed ∷ ready false ∷ [])
   pub cancel-stops-turns : Shows (stream 4 (memory 8 [])) (cancel ∷ write two (Ok tt) ∷ turn Stopped ∷ [])
   pub many-empty-writes : Shows (stream 4 (memory 8 [])) (replicate 256 (write [] (Ok tt)) ++ check-write (Ok 0) ∷ write [] (Err (Trap TooManyWrites)) ∷ [])
+  pub full-pipe : FullPipe
+  pub handles-share :
+      Happens (shared 2 2 (memory 8 []))
+      (handle-write 0 three (Ok (Ready 2)) ∷ handle-write 1 (100 ∷ []) (Ok Pending) ∷ checked (Err LockHeld) ∷ turned (Finished 2) ∷ handle-write 1 (100 ∷ []) (Ok (Ready 1)) ∷ [])
+  pub limits-refused : LimitsRefused

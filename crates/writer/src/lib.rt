@@ -11,8 +11,6 @@ pub mod image;
 pub mod memory;
 pub mod plan;
 pub mod planned;
-#[cfg(test)]
-mod tests;
 
 pub use answer::Fault;
 pub use answer::FlushAnswer;

@@ -6,6 +6,7 @@ use Rattle.stream.specs.declared.error.StreamError.the-variants.{Trap}
 use Rattle.stream.specs.declared.error.Trap.the-variants.{TooManyWrites}
 use Rattle.worked.specs.Shows.{write, check-write, memory, stream}
 use Rattle.worked.proofs.Turning.{shown, empty-writes}
+use Rattle.worked.proofs.Sharing.{happened}
 use Rattle.worked.proofs.worked_runs.Needs as need
 
 pub returns : need.returns
@@ -21,4 +22,7 @@ returns c =
       no-budget = shown _ _ (refl, (refl, (refl, tt)));
       cancel-stops-turns = shown _ _ (refl, (refl, tt));
       many-empty-writes = empty-writes 256 (stream 4 (memory 8 [])) (check-write (Ok 0) ∷ write [] (Err (Trap TooManyWrites)) ∷ []) refl refl (lit≤ tt) (shown _ _ (refl, (refl, tt)));
+      full-pipe = record { too-long = refl; whole = refl; no-permit = refl; no-flush = refl; no-write = refl };
+      handles-share = happened _ _ (refl, (refl, (refl, (refl, (refl, tt)))));
+      limits-refused = record { budget = refl; no-handle = refl; many-handles = refl; largest = refl };
     }

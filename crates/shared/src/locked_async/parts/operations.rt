@@ -7,7 +7,10 @@ use stream::OutputStream;
 use stream::StreamError;
 
 // Writes as many of the bytes as are permitted.
-pub(crate) fn write_permitted<S: OutputStream>(stream: &mut S, bytes: &[u8]) -> Result<Poll<usize>, StreamError>
+pub(crate) fn write_permitted<S: OutputStream>(
+    stream: &mut S,
+    bytes: &[u8],
+) -> Result<Poll<usize>, StreamError>
     requires { ⌜ 0 < length (now bytes) ⌝ }
     ensures { λ r. ⌜ WriteOperation checked wrote (meaning (view (now (stream .entry)))) (now (bytes .entry)) (view (now (stream .entry))) r (view (now (stream .exit))) ⌝ }
 {

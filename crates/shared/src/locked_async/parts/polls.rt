@@ -63,7 +63,14 @@ impl<S: OutputStream> Parts<S> {
     }
 
     // Gives the grant back: kept on not yet, else handed on.
-    fn give_back<T: Copy>(&mut self, number: usize, grant: Grant, result: Result<Poll<T>, StreamError>, done: bool, ended: bool)
+    fn give_back<T: Copy>(
+        &mut self,
+        number: usize,
+        grant: Grant,
+        result: Result<Poll<T>, StreamError>,
+        done: bool,
+        ended: bool,
+    )
         requires { ⌜ grant .handle ≡ number ⌝ }
         ensures { λ _. ⌜ parts-view view (now (self .exit)) ≡ given-back result done ended number (parts-view view (now (self .entry))) ⌝ }
     {
@@ -85,7 +92,12 @@ impl<S: OutputStream> Parts<S> {
     }
 
     // A write of the holder.
-    fn write_granted(&mut self, number: usize, grant: Grant, bytes: &[u8]) -> Result<Poll<usize>, HandleError>
+    fn write_granted(
+        &mut self,
+        number: usize,
+        grant: Grant,
+        bytes: &[u8],
+    ) -> Result<Poll<usize>, HandleError>
         requires same { ⌜ grant .handle ≡ number ⌝ }
         requires some { ⌜ 0 < length (now bytes) ⌝ }
         requires state { ⌜ handle number (parts-view view (now self)) .state ≡ Locking ⌝ }
@@ -147,7 +159,11 @@ impl<S: OutputStream> Parts<S> {
         }
     }
 
-    pub(crate) fn poll_write(&mut self, number: usize, bytes: &[u8]) -> Result<Poll<usize>, HandleError>
+    pub(crate) fn poll_write(
+        &mut self,
+        number: usize,
+        bytes: &[u8],
+    ) -> Result<Poll<usize>, HandleError>
         requires { ⌜ Room number (parts-view view (now self)) ⌝ }
         ensures { λ r. ⌜ Gives (poll-write meaning checked wrote number (now (bytes .entry)) (parts-view view (now (self .entry)))) r (parts-view view (now (self .exit))) ⌝ }
     {
@@ -190,11 +206,18 @@ impl<S: OutputStream> Parts<S> {
 fn requested(bytes: &[u8]) -> Request
     ensures { λ r. ⌜ wants r ≡ ltb 0 (length (now (bytes .entry))) ⌝ }
 {
-    if bytes.is_empty() { Request::Nothing } else { Request::Write }
+    if bytes.is_empty() {
+        Request::Nothing
+    } else {
+        Request::Write
+    }
 }
 
 // A closed stream answers the poll; a fault is passed on whole.
-fn unless_closed<T: Copy>(result: Result<Poll<T>, StreamError>, closed: T) -> Result<Poll<T>, HandleError>
+fn unless_closed<T: Copy>(
+    result: Result<Poll<T>, StreamError>,
+    closed: T,
+) -> Result<Poll<T>, HandleError>
     ensures { λ r. ⌜ r ≡ answered-by result closed ⌝ }
 {
     if let Err(StreamError::Closed) = result {

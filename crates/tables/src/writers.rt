@@ -1,23 +1,23 @@
 // The three writers on small examples.
-use crate::Fault;
-use crate::FlushAnswer;
-use crate::ImageIsWriter;
-use crate::ImageWriter;
-use crate::MemoryIsWriter;
-use crate::MemoryWriter;
-use crate::PlanEntry;
-use crate::PlanFull;
-use crate::PlannedIsWriter;
-use crate::PlannedWriter;
-use crate::WriteAnswer;
-use crate::Writer;
-use crate::answer::FlushAnswerDebug;
-use crate::answer::FlushAnswerPartialEq;
-use crate::answer::WriteAnswerDebug;
-use crate::answer::WriteAnswerPartialEq;
-use crate::planned::PlanFullDebug;
-use crate::planned::PlanFullPartialEq;
 use std::test::*;
+use writer::Fault;
+use writer::FlushAnswer;
+use writer::ImageIsWriter;
+use writer::ImageWriter;
+use writer::MemoryIsWriter;
+use writer::MemoryWriter;
+use writer::PlanEntry;
+use writer::PlanFull;
+use writer::PlannedIsWriter;
+use writer::PlannedWriter;
+use writer::WriteAnswer;
+use writer::Writer;
+use writer::answer::FlushAnswerDebug;
+use writer::answer::FlushAnswerPartialEq;
+use writer::answer::WriteAnswerDebug;
+use writer::answer::WriteAnswerPartialEq;
+use writer::planned::PlanFullDebug;
+use writer::planned::PlanFullPartialEq;
 
 #[test]
 fn memory_of_one_byte(rt: LibcRuntime) -> Result<(), Fail> {

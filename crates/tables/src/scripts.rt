@@ -1,13 +1,13 @@
 // Lines with the commands that they say, and answers with their text.
-use crate::Answer;
-use crate::AnswerDisplay;
-use crate::Command;
-use crate::canonical_command;
-use crate::command::CommandDebug;
-use crate::command::CommandPartialEq;
-use crate::next_line;
-use crate::parse_command;
-use crate::parse_limits;
+use script::Answer;
+use script::AnswerDisplay;
+use script::Command;
+use script::canonical_command;
+use script::command::CommandDebug;
+use script::command::CommandPartialEq;
+use script::next_line;
+use script::parse_command;
+use script::parse_limits;
 use std::test::*;
 use writer::Fault;
 use writer::PlanEntry;
