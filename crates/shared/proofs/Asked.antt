@@ -2,10 +2,10 @@
 use mathlib.Core.Path.{_≡_, refl, sym, ap, subst, _∙_}
 use mathlib.Core.Bool.{Bool, true, false, cond}
 use mathlib.Core.List.{List, [], _∷_, _++_}
-use Prim.Native.Nat.{ℕ, _<_, _≤_}
+use Prim.Native.Nat.{ℕ, _<_}
 use native.Mathlib.Omega.{arith}
 use native.Mathlib.Decide.{decLt}
-use lib.ListN.{length, getD, set}
+use lib.ListN.{length, set}
 use lib.Seq.{set-getD}
 use Rattle.std.proofs.shelf.Lists.{getD-past}
 use Rattle.promises.specs.declared.handle.HandleState.{HandleState}
@@ -13,12 +13,11 @@ use Rattle.promises.specs.declared.handle.HandleState.the-variants.{Ready, Lock
 use Rattle.promises.specs.SharedView.{HandleView, SharedView, dropped, handle, holds, asked, joins, waits, with-handle}
 use Rattle.shared.specs.declared.locked_async.table.changes.Request.{Request}
 use Rattle.shared.specs.declared.locked_async.table.changes.Request.the-variants.{Nothing, Write, Flush}
-use Rattle.shared.specs.declared.locked_async.table.changes.Met.{Met}
 use Rattle.shared.specs.declared.locked_async.table.changes.Met.the-variants.{NoSuchHandle, Answered, Joins, InLine}
 use Rattle.shared.specs.declared.locked_async.parts.polls.Acquired.{Acquired}
 use Rattle.shared.specs.declared.locked_async.parts.polls.Acquired.the-variants.{NoSuchHandle as NoHandle, Answered as AnsweredNow, InLine as Waiting, Granted}
-use Rattle.shared.specs.Asking.{met, met-open, wanting}
-use Rattle.shared.specs.Acquiring.{is-open, wants, Needless, First, Refused, Idle, Entered, Acquires}
+use Rattle.shared.specs.Asking.{met}
+use Rattle.shared.specs.Acquiring.{is-open, wants, Needless, First, Refused, Idle, Acquires}
 
 impossible : {P : Type 0} → _≡_ {A = ℕ} 0 1 → P
 impossible z = absurd (omega arith)
@@ -49,19 +48,18 @@ met-answered Locked Nothing e = refl
 met-answered Locked Write e = impossible (cc)
 met-answered Locked Flush e = impossible (cc)
 
--- a handle that joins was Ready, and one in line is in the queue already
+-- a handle that joins stands last in the queue, and one in line is in it already
 record Wanting (st : HandleState) (r : Request) (joining : Bool) : Type 0 where
   open-now : is-open st ≡ true
   wanted : wants r ≡ true
   place : (h : ℕ) (q : List ℕ) → joins st h q ≡ cond joining (q ++ h ∷ []) q
-  ready : joining ≡ true → st ≡ Ready
 
 met-joins : (st : HandleState) (r : Request) → Joins ≡ met st r → Wanting st r true
 met-joins Dropped r e = impossible (cc)
 met-joins Closed r e = impossible (cc)
 met-joins Ready Nothing e = impossible (cc)
-met-joins Ready Write e = record { open-now = refl; wanted = refl; place = λ h q. refl; ready = λ z. refl }
-met-joins Ready Flush e = record { open-now = refl; wanted = refl; place = λ h q. refl; ready = λ z. refl }
+met-joins Ready Write e = record { open-now = refl; wanted = refl; place = λ h q. refl }
+met-joins Ready Flush e = record { open-now = refl; wanted = refl; place = λ h q. refl }
 met-joins Locking Nothing e = impossible (cc)
 met-joins Locking Write e = impossible (cc)
 met-joins Locking Flush e = impossible (cc)
@@ -76,14 +74,11 @@ met-in-line Ready Nothing e = impossible (cc)
 met-in-line Ready Write e = impossible (cc)
 met-in-line Ready Flush e = impossible (cc)
 met-in-line Locking Nothing e = impossible (cc)
-met-in-line Locking Write e = record { open-now = refl; wanted = refl; place = λ h q. refl; ready = λ z. impossible (cc) }
-met-in-line Locking Flush e = record { open-now = refl; wanted = refl; place = λ h q. refl; ready = λ z. impossible (cc) }
+met-in-line Locking Write e = record { open-now = refl; wanted = refl; place = λ h q. refl }
+met-in-line Locking Flush e = record { open-now = refl; wanted = refl; place = λ h q. refl }
 met-in-line Locked Nothing e = impossible (cc)
-met-in-line Locked Write e = record { open-now = refl; wanted = refl; place = λ h q. refl; ready = λ z. impossible (cc) }
-met-in-line Locked Flush e = record { open-now = refl; wanted = refl; place = λ h q. refl; ready = λ z. impossible (cc) }
-
-pub met-ready : (st : HandleState) (r : Request) → Joins ≡ met st r → st ≡ Ready
-met-ready st r e = met-joins st r e .ready refl
+met-in-line Locked Write e = record { open-now = refl; wanted = refl; place = λ h q. refl }
+met-in-line Locked Flush e = record { open-now = refl; wanted = refl; place = λ h q. refl }
 
 module _ {V : Type 0} (h : ℕ) (request : Request) (s : SharedView V) where
   unchanged : (hs : List HandleView) → hs ≡ set (s .handles) h (handle h s) → record { stream = s .stream; queue = s .queue; handles = hs } ≡ s

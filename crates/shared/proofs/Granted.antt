@@ -1,15 +1,15 @@
 -- A handle that entered the queue and holds the lock meets what it would have met before it entered. Assumes nothing.
-use mathlib.Core.Path.{_≡_, refl, sym, ap, _∙_}
+use mathlib.Core.Path.{_≡_, ap, _∙_}
 use mathlib.Core.Bool.{Bool}
 use mathlib.Core.List.{List}
 use Prim.Native.Nat.{ℕ, zero, suc, _<_}
-use lib.ListN.{length, getD, set}
+use lib.ListN.{length}
 use lib.Seq.{getD-set-same, set-set}
 use Rattle.stream.specs.Meaning.{Meaning, faulted, closed, open-with}
 use Rattle.promises.specs.declared.handle.HandleState.{HandleState}
-use Rattle.promises.specs.declared.handle.HandleState.the-variants.{Ready, Locking}
+use Rattle.promises.specs.declared.handle.HandleState.the-variants.{Locking}
 use Rattle.promises.specs.SharedView.{HandleView, SharedView, dropped, handle, asked, joins, without, with-handle, waits, hands-on}
-use Rattle.promises.specs.Polls.{Outcome, outcome, HandleResult, write-by, second-by, second-stage, first-by}
+use Rattle.promises.specs.Polls.{outcome, write-by, second-by, second-stage, first-by}
 
 module _ {S : Type 0} (h : ℕ) (s : SharedView S) (there : h < length (s .handles)) where
   pub entered-handle : handle h (waits Locking h s) ≡ record { state = Locking; mark = handle h s .mark }

@@ -1,6 +1,6 @@
 -- What a poll meets of a stream, by its meaning. Assumes nothing.
 use mathlib.Core.Path.{_≡_, refl, sym, ap, subst, _∙_}
-use mathlib.Core.Bool.{Bool, true, false}
+use mathlib.Core.Bool.{false}
 use mathlib.Core.List.{List}
 use Prim.Native.Nat.{ℕ, zero, suc, min, _-_, _≤_, _<_}
 use native.Mathlib.Omega.{arith}
@@ -15,7 +15,6 @@ use Rattle.stream.specs.declared.error.StreamError.the-variants.{LastOperationF
 use Rattle.stream.specs.Meaning.{Meaning, faulted, closed, open-with, permit, ready}
 use Rattle.stream.specs.HostTurns.{HostTurns, none}
 use Rattle.stream.specs.StreamRules.{Honoured, PermitRule}
-use Rattle.promises.specs.declared.handle.Poll.{Poll}
 use Rattle.promises.specs.declared.handle.Poll.the-variants.{Ready, Pending}
 use Rattle.shared.specs.Operations.{StageOperation, WriteOperation}
 

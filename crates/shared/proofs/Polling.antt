@@ -1,5 +1,5 @@
 -- The polls of a handle, by how asking for the lock ended. Assumes nothing.
-use mathlib.Core.Path.{_≡_, refl, sym, ap, subst, _∙_}
+use mathlib.Core.Path.{_≡_, refl, sym, ap, _∙_}
 use mathlib.Core.Bool.{Bool, true, false, cond}
 use mathlib.Core.List.{List, [], _∷_}
 use Prim.Native.Nat.{ℕ, suc, _<_, _≤_}
@@ -7,21 +7,19 @@ use lib.Dec.{eqb}
 use lib.Seq.{getD-set-same}
 use native.Mathlib.Omega.{arith}
 use lib.ListN.{length}
-use Rattle.std.specs.declared.result.Result.{Result}
-use Rattle.std.specs.declared.result.Result.the-variants.{Ok, Err}
+use Rattle.std.specs.declared.result.Result.the-variants.{Ok}
 use Rattle.stream.specs.Meaning.{Meaning}
-use Rattle.promises.specs.declared.handle.HandleError.the-variants.{NoSuchHandle}
 use Rattle.promises.specs.declared.handle.HandleState.{HandleState}
 use Rattle.promises.specs.declared.handle.HandleState.the-variants.{Ready, Locking, Locked, Closed, Dropped}
 use Rattle.promises.specs.declared.handle.Poll.{Poll}
 use Rattle.promises.specs.declared.handle.Poll.the-variants.{Ready as Answer, Pending}
-use Rattle.promises.specs.SharedView.{HandleView, SharedView, dropped, handle, holds, asked, waits, without}
+use Rattle.promises.specs.SharedView.{HandleView, SharedView, dropped, handle, holds, waits, without}
 use Rattle.shared.specs.GivingBack.{given-back}
-use Rattle.promises.specs.Polls.{Outcome, outcome, HandleResult, by-state, with-lock, write-by, write-some, poll-write, second-by, second-stage, first-by, first-stage, poll-flush}
+use Rattle.promises.specs.Polls.{Outcome, outcome, HandleResult, by-state, write-by, write-some, poll-write, second-by, second-stage, first-by, first-stage, poll-flush}
 use Rattle.promises.specs.Steps.{Gives}
 use Rattle.shared.specs.declared.locked_async.table.changes.Request.{Request}
-use Rattle.shared.specs.declared.locked_async.table.changes.Request.the-variants.{Nothing, Write, Flush}
-use Rattle.shared.specs.Acquiring.{is-open, wants, Needless, Refused, Idle, Entered}
+use Rattle.shared.specs.declared.locked_async.table.changes.Request.the-variants.{Flush}
+use Rattle.shared.specs.Acquiring.{is-open, Entered}
 use Rattle.shared.proofs.Granted.{write-again, second-again, first-again}
 
 impossible : {P : Type 0} → _≡_ {A = ℕ} 0 1 → P
@@ -35,31 +33,11 @@ module _ {S X : Type 0} (s : SharedView S) (when-closed when-open : Outcome (Han
   by-open Closed o = impossible (cc)
   by-open Dropped o = impossible (cc)
 
-  by-dropped : (st : HandleState) → st ≡ Dropped → by-state st s when-closed when-open ≡ by-state Dropped s when-closed when-open
-  by-dropped st e = ap (λ x. by-state x s when-closed when-open) e
-
 gives : {R S : Type 0} {o : Outcome R S} (p : Outcome R S) (r : R) (t : SharedView S) → p ≡ o → Gives o r t → Gives p r t
 gives p r t e g = record { told = g .told ∙ ap (λ o. o .answer) (sym e); left = g .left ∙ ap (λ o. o .left) (sym e) }
 
 module _ {S : Type 0} (meaning : S → Meaning) (checked : S → S) (h : ℕ) (s t : SharedView S) where
   module _ (wrote : S → List ℕ → S) where
-    pub write-refused : (bytes : List ℕ) → Refused h s t → Gives (poll-write meaning checked wrote h bytes s) (Err NoSuchHandle) t
-    write-refused bytes r = gives _ _ _ (by-dropped s _ _ _ (r .state)) (record { told = refl; left = r .left })
-
-    pub write-idle : (bytes : List ℕ) (request : Request) → (wants request ≡ false → length bytes ≡ 0) → Idle h request s t → Gives (poll-write meaning checked wrote h bytes s) (Ok (Answer 0)) t
-    write-idle bytes request none i = gives _ _ _ (go (handle h s .state) (i .needless)) (record { told = refl; left = i .left })
-      where
-        nothing : (bs : List ℕ) → length bs ≡ 0 → write-some meaning checked wrote h bs s ≡ outcome (Ok (Answer 0)) s
-        nothing [] e = refl
-        nothing (b ∷ bs) e = absurd (omega arith)
-
-        go : (st : HandleState) → Needless st request → by-state st s (outcome (Ok (Answer 0)) s) (write-some meaning checked wrote h bytes s) ≡ outcome (Ok (Answer 0)) s
-        go Ready n = nothing bytes (none n)
-        go Locking n = nothing bytes (none n)
-        go Locked n = nothing bytes (none n)
-        go Closed n = refl
-        go Dropped n = absurd n
-
     write-enters : (bytes : List ℕ) (request : Request) (first : Bool) → 0 < length bytes → Entered h request first s t →
         poll-write meaning checked wrote h bytes s ≡ cond first (write-by meaning checked wrote (meaning (s .stream)) h bytes s) (outcome (Ok Pending) (waits Locking h s))
     write-enters bytes request first some e = by-open s _ _ _ (e .open-now) ∙ go bytes some
@@ -67,9 +45,6 @@ module _ {S : Type 0} (meaning : S → Meaning) (checked : S → S) (h : ℕ) (s
         go : (bs : List ℕ) → 0 < length bs → write-some meaning checked wrote h bs s ≡ cond first (write-by meaning checked wrote (meaning (s .stream)) h bs s) (outcome (Ok Pending) (waits Locking h s))
         go [] some = absurd (omega arith)
         go (b ∷ bs) some = ap (λ b′. cond b′ (write-by meaning checked wrote (meaning (s .stream)) h (b ∷ bs) s) (outcome (Ok Pending) (waits Locking h s))) (e .place)
-
-    pub write-in-line : (bytes : List ℕ) (request : Request) → 0 < length bytes → Entered h request false s t → Gives (poll-write meaning checked wrote h bytes s) (Ok Pending) t
-    write-in-line bytes request some e = gives _ _ _ (write-enters bytes request false some e) (record { told = refl; left = e .left })
 
     pub write-granted : (bytes : List ℕ) (request : Request) (r : HandleResult (Poll ℕ)) (u : SharedView S) → 0 < length bytes → Entered h request true s t →
         Gives (write-by meaning checked wrote (meaning (t .stream)) h bytes t) r u → Gives (poll-write meaning checked wrote h bytes s) r u
@@ -83,32 +58,13 @@ module _ {S : Type 0} (meaning : S → Meaning) (checked : S → S) (h : ℕ) (s
     first-enters : (first : Bool) → Entered h Flush first s t → first-stage meaning checked flushed h s ≡ cond first (first-by meaning checked flushed (meaning (s .stream)) h s) (outcome (Ok Pending) (waits Locking h s))
     first-enters first e = ap (λ b. cond b (first-by meaning checked flushed (meaning (s .stream)) h s) (outcome (Ok Pending) (waits Locking h s))) (e .place)
 
-    pub second-in-line : Entered h Flush false s t → Gives (second-stage meaning checked flushed h s) (Ok Pending) t
-    second-in-line e = gives _ _ _ (second-enters false e) (record { told = refl; left = e .left })
-
     pub second-granted : (r : HandleResult (Poll (Unit {0}))) (u : SharedView S) → Entered h Flush true s t → Gives (second-by meaning checked flushed (meaning (t .stream)) h t) r u → Gives (second-stage meaning checked flushed h s) r u
     second-granted r u e g =
         gives _ r u (second-enters true e ∙ sym (second-again h s (e .there) meaning checked flushed (meaning (s .stream))) ∙ ap (λ v. second-by meaning checked flushed (meaning (v .stream)) h v) (sym (e .left))) g
 
-    pub first-in-line : Entered h Flush false s t → Gives (first-stage meaning checked flushed h s) (Ok Pending) t
-    first-in-line e = gives _ _ _ (first-enters false e) (record { told = refl; left = e .left })
-
     pub first-granted : (r : HandleResult (Poll (Unit {0}))) (u : SharedView S) → Entered h Flush true s t → Gives (first-by meaning checked flushed (meaning (t .stream)) h t) r u → Gives (first-stage meaning checked flushed h s) r u
     first-granted r u e g =
         gives _ r u (first-enters true e ∙ sym (first-again h s (e .there) meaning checked flushed (meaning (s .stream))) ∙ ap (λ v. first-by meaning checked flushed (meaning (v .stream)) h v) (sym (e .left))) g
-
-    pub flush-refused : Refused h s t → Gives (poll-flush meaning checked flushed h s) (Err NoSuchHandle) t
-    flush-refused r = gives _ _ _ (by-dropped s _ _ _ (r .state)) (record { told = refl; left = r .left })
-
-    pub flush-idle : Idle h Flush s t → Gives (poll-flush meaning checked flushed h s) (Ok (Answer tt)) t
-    flush-idle i = gives _ _ _ (go (handle h s .state) (i .needless)) (record { told = refl; left = i .left })
-      where
-        go : (st : HandleState) → Needless st Flush → by-state st s (outcome (Ok (Answer tt)) s) (cond (handle h s .mark) (second-stage meaning checked flushed h s) (first-stage meaning checked flushed h s)) ≡ outcome (Ok (Answer tt)) s
-        go Ready n = impossible (cc)
-        go Locking n = impossible (cc)
-        go Locked n = impossible (cc)
-        go Closed n = refl
-        go Dropped n = absurd n
 
     pub flush-marked : (r : HandleResult (Poll (Unit {0}))) (u : SharedView S) → is-open (handle h s .state) ≡ true → handle h s .mark ≡ true → Gives (second-stage meaning checked flushed h s) r u → Gives (poll-flush meaning checked flushed h s) r u
     flush-marked r u o m g = gives _ r u (by-open s _ _ _ o ∙ ap (λ b. cond b (second-stage meaning checked flushed h s) (first-stage meaning checked flushed h s)) m) g

@@ -1,8 +1,8 @@
 -- A list of calls makes a run, and the promises hold at every prefix of it. Assumes nothing.
-use mathlib.Core.Path.{_≡_, refl, sym, ap, subst, _∙_}
+use mathlib.Core.Path.{_≡_, sym, ap, subst, _∙_}
 use mathlib.Core.List.{List, [], _∷_, _++_, map}
 use Prim.Native.Nat.{ℕ, _+_, _<_, _≤_}
-use lib.ListN.{length, take, getD, replicate, length-replicate}
+use lib.ListN.{length, take, getD, length-replicate}
 use Rattle.std.proofs.shelf.Lists.{map-more, take-all}
 use Rattle.writer.specs.declared.answer.WriteAnswer.{WriteAnswer}
 use Rattle.writer.specs.declared.answer.FlushAnswer.{FlushAnswer}
@@ -14,8 +14,8 @@ use Rattle.promises.specs.History.{History, start, _▷_, _▷▷_}
 use Rattle.promises.specs.Promises.{Run, made, called, Promises}
 use Rattle.shared.specs.declared.call.Answer.{Answer}
 use Rattle.shared.specs.declared.call.Call.{Call}
-use Rattle.shared.specs.Calls.{CallView, call-view, Pairs, Performed, none, more}
-use Rattle.shared.specs.Running.{HoldsAt, Kept, Ran}
+use Rattle.shared.specs.Calls.{call-view, Pairs, Performed, more}
+use Rattle.shared.specs.Running.{HoldsAt, Kept}
 
 module _ {V : Type 0} (writes : V → List ℕ → WriteAnswer → V → Type 0) (flushes : V → FlushAnswer → V → Type 0) where
   module _ (budget handles : ℕ) (writer : V) (s : SharedView (WorkerView V)) (begins : s ≡ fresh (fresh-stream budget writer) handles) where

@@ -1,11 +1,10 @@
 -- The handles of a table, as they lie in its array. Assumes nothing.
-use mathlib.Core.Path.{_≡_, refl, sym, ap, _∙_}
-use mathlib.Core.List.{List}
+use mathlib.Core.Path.{_≡_, sym, ap, _∙_}
 use Prim.Native.Nat.{ℕ, _≤_, _<_}
 use native.Mathlib.Omega.{arith}
 use native.Mathlib.Decide.{decLt}
 use lib.ListN.{length, take, getD, set, length-take}
-use lib.Seq.{getD-take, take-set-lt, set-getD}
+use lib.Seq.{getD-take, take-set-lt}
 use Rattle.std.proofs.shelf.Lists.{getD-default, getD-past, set-past}
 use Rattle.promises.specs.declared.handle.HandleState.the-variants.{Dropped}
 use Rattle.promises.specs.SharedView.{HandleView, dropped}

@@ -1,5 +1,4 @@
 use native.Mathlib.Omega.{arith}
-use borrow.Author.Needs.{needs}
 use Rattle.std.specs.Of.Vec.{vec-items}
 use Rattle.stream.specs.WorkerOf.{worker-view}
 use Rattle.promises.specs.History.{start}

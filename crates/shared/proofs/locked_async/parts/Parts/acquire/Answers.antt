@@ -1,6 +1,5 @@
-use mathlib.Core.Path.{sym, ap, _∙_}
 use Rattle.shared.specs.PartsOf.{parts-view}
-use Rattle.shared.proofs.Asked.{none-there, answered-now, joined, in-line, met-ready}
+use Rattle.shared.proofs.Asked.{none-there, answered-now, joined, in-line}
 use Rattle.shared.proofs.locked_async.parts.Parts.acquire.Needs as need
 
 pub returns-in-NoSuchHandle : need.returns-in-NoSuchHandle

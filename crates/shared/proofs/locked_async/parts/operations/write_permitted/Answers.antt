@@ -1,13 +1,12 @@
-use mathlib.Core.Path.{_≡_, refl, sym, ap, subst, _∙_}
-use Prim.Native.Nat.{ℕ, _-_, min, _<_, _≤_}
+use mathlib.Core.Path.{_≡_, sym, ap, subst, _∙_}
+use Prim.Native.Nat.{_-_, _≤_}
 use native.Mathlib.Omega.{arith}
 use lib.ListN.{length, take, length-take}
-use Rattle.std.specs.declared.result.Result.the-variants.{Ok, Err}
+use Rattle.std.specs.declared.result.Result.the-variants.{Ok}
 use Rattle.stream.specs.Meaning.{permit}
 use Rattle.promises.specs.declared.handle.Poll.the-variants.{Ready}
 use Rattle.shared.specs.Operations.{WriteOperation}
 use Rattle.shared.proofs.Operating.{permitted, first-bytes, waits-unpermitted, writes-permitted, never-refused}
-use Rattle.shared.proofs.locked_async.parts.operations.write_permitted.Given as given
 use Rattle.shared.proofs.locked_async.parts.operations.write_permitted.Needs as need
 
 pub returns-then-permit-eq0 : need.returns-then-permit-eq0
