@@ -21,6 +21,10 @@ fn main(rt: LibcRuntime) -> Result<(), AnyError> {
         "fault.script",
         "two-hooks.script",
         "flush-after-write.script",
+        "two-artists.script",
+        "sixteen-in-line.script",
+        "fault-while-waiting.script",
+        "cancel-while-held.script",
     ] {
         play(&rt, path)?;
     }
