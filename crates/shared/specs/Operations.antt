@@ -1,7 +1,7 @@
 -- What a poll does with the stream while it owns the grant, by the stream's meaning. Assumes nothing.
---   Operated        an answer of the stream, or not yet, and the stream left
---   write-operation, first-operation, second-operation   a write, and the two stages of a flush
---   Acquired        how a poll comes by the grant
+--   Operated         this answer, or not yet, and this stream left
+--   WriteOperation   a write of as many bytes as are permitted
+--   StageOperation   a stage of a flush
 use mathlib.Core.Path.{_≡_}
 use mathlib.Core.Bool.{true, false}
 use mathlib.Core.List.{List}
