@@ -1,8 +1,8 @@
 -- The text of an answer is one line. Assumes nothing.
 use Rattle.std.proofs.Common.{◌≡◌, ℕ, zero, suc, ◌+◌, ◌/◌, ◌%◌, Bool, true, false, not, ◌&&◌, eqb, ltb, List, [], ◌∷◌, ◌++◌, codes, decimal, sym, refl, ap, ◌∙◌, arith, ne_eqb}
-use borrow.Author.Tests.{eqb_false}
-use Rattle.std.proofs.ByRecursion.{All_append}
-use Rattle.std.proofs.lemmas.Bool.{and_parts, not_true, cond_both}
+use borrow.Author.Tests.{eqb-false}
+use Rattle.std.proofs.ByRecursion.{All-append}
+use Rattle.std.proofs.lemmas.Bool.{and_parts, not-true, cond_both}
 use Rattle.std.specs.Fmt.{digits, digits_onto, digit_glyph}
 use Rattle.writer.specs.declared.answer.Fault.TheVariants.{WriteZero, Device}
 use Rattle.answers.specs.declared.answer.Answer.{Answer}
@@ -18,7 +18,7 @@ one_line_tested : (text : List ℕ) → no_newline text ≡ true → OneLine tex
 one_line_tested [] e = tt
 one_line_tested (b ∷ bs) e =
     let both = and_parts (not (eqb b 10)) (no_newline bs) e in
-    (eqb_false b 10 (not_true _ both.0), one_line_tested bs both.1)
+    (eqb-false b 10 (not-true _ both.0), one_line_tested bs both.1)
 
 glyph_not_newline : (d : ℕ) → digit_glyph false d ≡ 10 → ⊥
 glyph_not_newline d = cond_both (ltb d 10) (48 + d) (87 + d) (λ b. b ≡ 10 → ⊥) (λ e h. omega arith) (λ e h. omega arith)
@@ -34,7 +34,7 @@ unfolding digits
 decimal_one_line n = spelled_one_line 64 n [] tt
 
 word_and_number : (word : List ℕ) (n : ℕ) → no_newline word ≡ true → OneLine (word ++ decimal n)
-word_and_number word n e = All_append (λ b. b ≡ 10 → ⊥) word (decimal n) (one_line_tested word e) (decimal_one_line n)
+word_and_number word n e = All-append (λ b. b ≡ 10 → ⊥) word (decimal n) (one_line_tested word e) (decimal_one_line n)
 
 answer_one_line : (answer : Answer) → OneLine (answer_text answer)
 answer_one_line Accepted = one_line_tested (codes "ok") refl

@@ -1,6 +1,6 @@
 -- A list of calls makes a run, and the promises hold at every prefix of it. Assumes nothing.
 use Rattle.std.proofs.Common.{◌≡◌, ℕ, ◌+◌, ◌<◌, ◌≤◌, List, [], ◌∷◌, ◌++◌, map, length, get_or, take, sym, ap, ◌∙◌, subst}
-use lib.ListN.{length_replicate}
+use lib.ListN.{length-replicate}
 use Rattle.std.proofs.lemmas.List.{map_more, take_all}
 use Rattle.writer.specs.declared.answer.WriteAnswer.{WriteAnswer}
 use Rattle.writer.specs.declared.answer.FlushAnswer.{FlushAnswer}
@@ -18,11 +18,11 @@ use Rattle.calls.specs.Running.{HoldsAt, Kept}
 module _ {V : Type 0} (writes : V → List ℕ → WriteAnswer → V → Type 0) (flushes : V → FlushAnswer → V → Type 0) where
   module _ (budget handles : ℕ) (writer : V) (s : SharedView (WorkerView V)) (begins : s ≡ fresh (fresh_stream budget writer) handles) where
     pub started : Run writes flushes s.stream.free (length s.handles) s.stream.writer start s
-    started = subst (λ t. Run writes flushes t.stream.free (length t.handles) t.stream.writer start t) (sym begins) (subst (λ n. Run writes flushes budget n writer start (fresh (fresh_stream budget writer) handles)) (sym (length_replicate handles _)) made)
+    started = subst (λ t. Run writes flushes t.stream.free (length t.handles) t.stream.writer start t) (sym begins) (subst (λ n. Run writes flushes budget n writer start (fresh (fresh_stream budget writer) handles)) (sym (length-replicate handles _)) made)
 
     pub from_limits : (es : History) (t : SharedView (WorkerView V)) → Run writes flushes s.stream.free (length s.handles) s.stream.writer es t → Run writes flushes budget handles writer es t
     from_limits es t r =
-        subst (λ n. Run writes flushes budget n writer es t) (ap (λ u. length u.handles) begins ∙ length_replicate handles _)
+        subst (λ n. Run writes flushes budget n writer es t) (ap (λ u. length u.handles) begins ∙ length-replicate handles _)
         (subst (λ u. Run writes flushes u.stream.free (length s.handles) u.stream.writer es t) begins r)
 
   prefix_run : {budget handles : ℕ} {writer : V} (prefix later : History) (t : SharedView (WorkerView V)) → Run writes flushes budget handles writer (prefix ▷▷ later) t → (s : SharedView (WorkerView V)) × Run writes flushes budget handles writer prefix s

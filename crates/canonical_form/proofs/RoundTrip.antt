@@ -1,6 +1,6 @@
 -- The canonical text of a command is read as that command. Assumes nothing.
-use Rattle.std.proofs.Common.{◌≡◌, ℕ, ◌^◌, ◌<◌, ◌≤◌, List, [], ◌∷◌, ◌++◌, Some, None, codes, decimal, Option, sym, refl, ap, ◌∙◌, append_assoc, arith, ne_eqb, le_leb}
-use Rattle.std.proofs.lemmas.Fmt.{decimal_is_IsNumeral, length_decimal_le}
+use Rattle.std.proofs.Common.{◌≡◌, ℕ, ◌^◌, ◌<◌, ◌≤◌, List, [], ◌∷◌, ◌++◌, Some, None, codes, decimal, Option, sym, refl, ap, ◌∙◌, append_assoc, arith, ne_eqb, le-leb}
+use Rattle.std.proofs.lemmas.Fmt.{decimal_is_IsNumeral, length-decimal-le}
 use Rattle.std.proofs.lemmas.Str.Parse.{digit_from_value}
 use Rattle.std.specs.Option.{option_map}
 use Rattle.std.specs.Str.Parse.{AllDigits}
@@ -14,10 +14,10 @@ use Rattle.script.proofs.Readings.{number_digits}
 number_decimal : (n : ℕ) → n < 10 ^ 9 → number (decimal n) ≡ Some n
 number_decimal n small =
     let reads = decimal_is_IsNumeral n (omega arith) in
-    number_digits (decimal n) reads.0.0 (length_decimal_le 9 n (omega arith) small (omega arith)) reads.0.1 ∙ ap (λ (x : ℕ). Some x) reads.1
+    number_digits (decimal n) reads.0.0 (length-decimal-le 9 n (omega arith) small (omega arith)) reads.0.1 ∙ ap (λ (x : ℕ). Some x) reads.1
 
 at_most_decimal : (limit n : ℕ) → limit < 10 ^ 9 → n ≤ limit → at_most limit (number (decimal n)) ≡ Some n
-at_most_decimal limit n small h = ap (at_most limit) (number_decimal n (omega arith)) ∙ rw (le_leb n limit h)
+at_most_decimal limit n small h = ap (at_most limit) (number_decimal n (omega arith)) ∙ rw (le-leb n limit h)
 
 split_after_digits : (ds bs : List ℕ) → AllDigits 10 ds → split_at_mark 32 (ds ++ (32 ∷ bs)) ≡ Some (ds, bs)
 split_after_digits [] bs digits = refl

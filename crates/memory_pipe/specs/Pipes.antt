@@ -1,9 +1,9 @@
 -- What the calls of a memory pipe leave of its view, and that a permit holds. Assumes nothing.
 use Rattle.std.specs.Prelude.{◌≡◌, ℕ, ◌+◌, ◌-◌, ◌<◌, ◌≤◌, Bool, true, false, cond, List, ◌++◌, length, take, drop, Ok, vec_items, nat_lt, refl}
-use Rattle.std.proofs.Common.{sym, ap, ◌∙◌, arith, length_take, length_drop, length_append, lt_ltb, le_leb}
+use Rattle.std.proofs.Common.{sym, ap, ◌∙◌, arith, length-take, length-drop, length-append, lt-ltb, le-leb}
 use borrow.Rule.Slice.PartMut.{put_mid}
-use Rattle.std.proofs.lemmas.List.{drop_drop, take_at}
-use Rattle.std.proofs.lemmas.Slice.{take_put_mid, drop_put_mid}
+use Rattle.std.proofs.lemmas.List.{drop-drop, take_at}
+use Rattle.std.proofs.lemmas.Slice.{take-put_mid, drop-put_mid}
 use Rattle.memory_pipe.specs.declared.pipe.MemoryOutputPipe.{MemoryOutputPipe}
 use Rattle.stream.specs.HostTurns.{HostTurns, none, more}
 use Rattle.stream.specs.Meaning.{open_with, closed, permit}
@@ -14,7 +14,7 @@ same_view : {h h' r r' : List ℕ} → h ≡ h' → r ≡ r' → ◌≡◌ {A = 
 same_view e f = cc
 
 pub room_within : (p : MemoryOutputPipe) (n : ℕ) → n ≤ length (pipe_view p).room → p.held + n ≤ length (vec_items p.buffer)
-room_within p n few = omega (arith, p.within, p.buffer.ok, simp length_drop at few)
+room_within p n few = omega (arith, p.within, p.buffer.ok, simp length-drop at few)
 
 module _ (h : ℕ) (xs bytes : List ℕ) (within : h + length bytes ≤ length xs) where
   -- what a vector holds once the bytes were copied to their place at h
@@ -22,7 +22,7 @@ module _ (h : ℕ) (xs bytes : List ℕ) (within : h + length bytes ≤ length x
       (len : ℕ) (ds q : List ℕ) → length xs ≡ len → ds ≡ xs → q ≡ bytes →
       take len (put_mid h (h + length bytes - h) ds q ++ drop (length (put_mid h (h + length bytes - h) ds q)) xs) ≡ put_mid h (h + length bytes - h) xs bytes
   copied_is len ds q len_is ds_is q_is =
-      let long : length (put_mid h (h + length bytes - h) xs bytes) ≡ len = simp (length_append, length_drop, length_take) (omega arith) in
+      let long : length (put_mid h (h + length bytes - h) xs bytes) ≡ len = simp (length-append, length-drop, length-take) (omega arith) in
       rw (ds_is, q_is) (take_at (put_mid h (h + length bytes - h) xs bytes) _ len long)
 
   pub accepted_is :
@@ -30,8 +30,8 @@ module _ (h : ℕ) (xs bytes : List ℕ) (within : h + length bytes ≤ length x
       ◌≡◌ {A = PipeView} (record { held = take (h + length bytes) ys; room = drop (h + length bytes) ys }) (accept bytes (record { held = take h xs; room = drop h xs }))
   accepted_is ys is =
       same_view
-      (ap (take (h + length bytes)) is ∙ take_put_mid h (h + length bytes - h) xs bytes (h + length bytes) refl (omega arith))
-      (ap (drop (h + length bytes)) is ∙ drop_put_mid h (h + length bytes - h) xs bytes (h + length bytes) (omega arith) (omega arith) (omega arith) ∙ sym (drop_drop (length bytes) h xs))
+      (ap (take (h + length bytes)) is ∙ take-put_mid h (h + length bytes - h) xs bytes (h + length bytes) refl (omega arith))
+      (ap (drop (h + length bytes)) is ∙ drop-put_mid h (h + length bytes - h) xs bytes (h + length bytes) (omega arith) (omega arith) (omega arith) ∙ sym (drop-drop (length bytes) h xs))
 
 -- without host turns a stream stays as it is
 stays : {V : Type 0} {s t : V} → HostTurns (λ a b. ⊥) s t → s ≡ t
@@ -46,7 +46,7 @@ permitted_room s n e = go (nat_lt 0 (length s.room)) e
     go false e = absurd (let z : ◌≡◌ {A = ℕ} 0 1 = cc in omega arith)
 
 fitting_accepted : (s : PipeView) (bytes : List ℕ) → 0 < length s.room → length bytes ≤ length s.room → accepts s bytes ≡ Ok tt
-fitting_accepted s bytes some few = rw (lt_ltb 0 (length s.room) some, le_leb (length bytes) (length s.room) few)
+fitting_accepted s bytes some few = rw (lt-ltb 0 (length s.room) some, le-leb (length bytes) (length s.room) few)
 
 pub permit_holds : PermitRule meaning (λ a b. ⊥) checked accepts
 permit_holds s t n bytes e some few run =

@@ -1,7 +1,7 @@
 -- The entries left of a plan, and what a planned writer's answers mean. Assumes nothing.
 use Rattle.std.specs.Prelude.{◌≡◌, ℕ, ◌+◌, ◌-◌, ◌<◌, ◌≤◌, min, List, [], ◌∷◌, ◌++◌, length, take, drop, slice_index_or, slice_set}
-use Rattle.std.proofs.Common.{ap, ◌∙◌, arith, length_take}
-use Rattle.std.proofs.lemmas.List.{take_take, drop_more, drop_all, get_or_take, take_more_set, drop_append_le}
+use Rattle.std.proofs.Common.{ap, ◌∙◌, arith, length-take}
+use Rattle.std.proofs.lemmas.List.{take-take, drop_more, drop_all, get_or-take, take_more_set, drop-append-le}
 use Rattle.writer.specs.Meaning.{WriteMeans}
 use Rattle.writer.specs.declared.answer.WriteAnswer.{WriteAnswer}
 use Rattle.writer.specs.declared.answer.WriteAnswer.TheVariants.{Took, NotYet as WriteNotYet, Failed}
@@ -14,14 +14,14 @@ use Rattle.writer.proofs.Cuts.{take_min}
 module _ (entries : List PlanEntry) (n i : ℕ) where
   pub left_at : (d : PlanEntry) → i < n → n ≤ length entries → drop i (take n entries) ≡ slice_index_or entries i d ∷ drop (i + 1) (take n entries)
   left_at d here whole =
-      let long : i < length (take n entries) = simp length_take (omega arith) in
-      drop_more (take n entries) i d long ∙ ap (λ e. e ∷ drop (i + 1) (take n entries)) (get_or_take n entries i d here)
+      let long : i < length (take n entries) = simp length-take (omega arith) in
+      drop_more (take n entries) i d long ∙ ap (λ e. e ∷ drop (i + 1) (take n entries)) (get_or-take n entries i d here)
 
   pub left_none : n ≤ i → drop i (take n entries) ≡ []
-  left_none past = drop_all i (take n entries) (simp length_take (omega arith))
+  left_none past = drop_all i (take n entries) (simp length-take (omega arith))
 
   pub left_push : (entry : PlanEntry) → i ≤ n → n < length entries → drop i (take (n + 1) (slice_set entries n entry)) ≡ drop i (take n entries) ++ entry ∷ []
-  left_push entry within room = ap (drop i) (take_more_set entries n entry room) ∙ drop_append_le i (take n entries) (entry ∷ []) (simp length_take (omega arith))
+  left_push entry within room = ap (drop i) (take_more_set entries n entry room) ∙ drop-append-le i (take n entries) (entry ∷ []) (simp length-take (omega arith))
 
 pub take_handed : (k : ℕ) (part : List ℕ) → take (min k (length part) - 0) part ≡ take k part
 take_handed k part = ap (λ n. take n part) (omega arith) ∙ take_min k part
@@ -29,8 +29,8 @@ take_handed k part = ap (λ n. take n part) (omega arith) ∙ take_min k part
 -- what an answer means of the part handed down it means of the whole part
 pub whole_means : (t : List ℕ) (c k : ℕ) (part : List ℕ) (r : WriteAnswer) (t' : List ℕ) (c' : ℕ) → WriteMeans t c (take k part) r t' c' → WriteMeans t c part r t' c'
 whole_means t c k part (Took n) t' c' m =
-    let within : n ≤ min k (length part) = rw length_take at m.within in
-    record { within = omega arith; bytes = m.bytes ∙ ap (λ l. t ++ l) (take_take n k part (omega arith)); count = m.count }
+    let within : n ≤ min k (length part) = rw length-take at m.within in
+    record { within = omega arith; bytes = m.bytes ∙ ap (λ l. t ++ l) (take-take n k part (omega arith)); count = m.count }
 whole_means t c k part WriteNotYet t' c' m = m
 whole_means t c k part (Failed f) t' c' m = m
 

@@ -1,9 +1,9 @@
 -- Conservation: budget, lengths and bytes of the stream against its history.
 -- Assumes nothing.
-use Rattle.std.proofs.Common.{◌≡◌, ℕ, zero, suc, ◌+◌, ◌-◌, ◌<◌, ◌≤◌, min, max, List, [], ◌∷◌, ◌++◌, map, length, take, drop, Ok, Err, sym, refl, ap, ◌∙◌, subst, append_assoc, append_nil, arith, length_append, length_take, take_at, take_add, drop_at}
+use Rattle.std.proofs.Common.{◌≡◌, ℕ, zero, suc, ◌+◌, ◌-◌, ◌<◌, ◌≤◌, min, max, List, [], ◌∷◌, ◌++◌, map, length, take, drop, Ok, Err, sym, refl, ap, ◌∙◌, subst, append_assoc, append-nil, arith, length-append, length-take, take_at, take-add, drop_at}
 use mathlib.Core.Path.{subst⁻¹}
 use mathlib.Core.List.{flatten}
-use lib.ListN.{length_map}
+use lib.ListN.{length-map}
 use Rattle.worker_stream.specs.StoreView.{oldest}
 use Rattle.worker_stream.specs.declared.write_stream.job.Turn.{Turn}
 use Rattle.handles.specs.declared.handle.HandleError.{HandleError}
@@ -20,7 +20,7 @@ total_append (u ∷ us) vs = omega (arith, total_append us vs)
 
 flatten_snoc : (us : List (List ℕ)) (w : List ℕ) → flatten (us ++ w ∷ []) ≡ flatten us ++ w
 unfolding flatten
-flatten_snoc [] w = append_nil w
+flatten_snoc [] w = append-nil w
 flatten_snoc (u ∷ us) w = rw (flatten_snoc us w, append_assoc u (flatten us) w)
 
 map_snoc : (us : List (List ℕ)) (w : List ℕ) → map length (us ++ w ∷ []) ≡ map length us ++ length w ∷ []
@@ -33,10 +33,10 @@ take_length_take (suc n) [] = refl
 take_length_take (suc n) (b ∷ bs) = ap (λ (x : List ℕ). b ∷ x) (take_length_take n bs)
 
 take_min : (n : ℕ) (bs : List ℕ) → take (min n (length bs)) bs ≡ take n bs
-take_min n bs = ap (λ (k : ℕ). take k bs) (sym (length_take n bs)) ∙ take_length_take n bs
+take_min n bs = ap (λ (k : ℕ). take k bs) (sym (length-take n bs)) ∙ take_length_take n bs
 
 take_drop_all : (n : ℕ) (w : List ℕ) → take n w ++ drop n w ≡ w
-take_drop_all n w = lib.ListN.take_append_drop n w
+take_drop_all n w = lib.ListN.take-append-drop n w
 
 -- taken: what the writer has taken, of which `before` was there before the stream was made
 pub record Accounting (B : ℕ) (before : List ℕ) (es : History) (free : ℕ) (us : List (List ℕ)) (progress : ℕ) (taken : List ℕ) : Type 0 where
@@ -63,8 +63,8 @@ module _ (B : ℕ) (before : List ℕ) (es : History) (e : Event) where
   nothing_accepted pa q k =
       record {
         finished = k.finished;
-        splits = rw (pa, append_nil (accepted es)) k.splits;
-        lengths = rw (q.none_finished, append_nil (finished_lengths es)) k.lengths;
+        splits = rw (pa, append-nil (accepted es)) k.splits;
+        lengths = rw (q.none_finished, append-nil (finished_lengths es)) k.lengths;
         budget = k.budget;
         movement = q.none_moved (moved es) ∙ k.movement;
         partly = k.partly;
@@ -85,12 +85,12 @@ module _ (B : ℕ) (before : List ℕ) (es : History) (e : Event) where
       record {
         finished = k.finished;
         splits = rw (pa, k.splits, append_assoc k.finished us (bs ∷ []));
-        lengths = rw (q.none_finished, append_nil (finished_lengths es)) k.lengths;
+        lengths = rw (q.none_finished, append-nil (finished_lengths es)) k.lengths;
         budget = let t = total_append us (bs ∷ []) in let b = k.budget in omega arith;
         movement = q.none_moved (moved es) ∙ k.movement;
         partly = o.1;
         bytes = rw (← o.0) k.bytes;
-        few = simp length_append (omega arith);
+        few = simp length-append (omega arith);
       }
 
   one_finished : {free : ℕ} {progress : ℕ} {taken : List ℕ} (w : List ℕ) (us us₀ : List (List ℕ)) → us₀ ≡ w ∷ us
@@ -100,13 +100,13 @@ module _ (B : ℕ) (before : List ℕ) (es : History) (e : Event) where
       let k : Accounting B before es free (w ∷ us) progress taken = subst (λ (x : List (List ℕ)). Accounting B before es free x progress taken) eq k₀ in
       record {
         finished = k.finished ++ w ∷ [];
-        splits = rw (pa, append_nil (accepted es), append_assoc k.finished (w ∷ []) us) k.splits;
+        splits = rw (pa, append-nil (accepted es), append_assoc k.finished (w ∷ []) us) k.splits;
         lengths = rw (pf, k.lengths) (sym (map_snoc k.finished w));
         budget = let b = k.budget in omega arith;
         movement = pm (moved es);
         partly = omega arith;
         bytes =
-            rw (k.bytes, append_assoc (before ++ flatten k.finished) (take progress w) (drop progress w), take_drop_all progress w, flatten_snoc k.finished w, append_nil (before ++ (flatten k.finished ++ w)))
+            rw (k.bytes, append_assoc (before ++ flatten k.finished) (take progress w) (drop progress w), take_drop_all progress w, flatten_snoc k.finished w, append-nil (before ++ (flatten k.finished ++ w)))
             (append_assoc before (flatten k.finished) w);
         few = let f = k.few in omega arith;
       }
@@ -119,12 +119,12 @@ module _ (B : ℕ) (before : List ℕ) (es : History) (e : Event) where
       subst⁻¹ (λ (x : List (List ℕ)). Accounting B before (es ▷ e) free x (progress + suc n) (taken ++ take (suc n) (drop progress w))) eq
       record {
         finished = k.finished;
-        splits = rw (pa, append_nil (accepted es)) k.splits;
-        lengths = rw (pf, append_nil (finished_lengths es)) k.lengths;
+        splits = rw (pa, append-nil (accepted es)) k.splits;
+        lengths = rw (pf, append-nil (finished_lengths es)) k.lengths;
         budget = k.budget;
         movement = pm (moved es) ∙ ap (λ (x : ℕ). x + suc n) k.movement;
         partly = omega arith;
-        bytes = rw (k.bytes, append_assoc (before ++ flatten k.finished) (take progress w) (take (suc n) (drop progress w)), take_add progress (suc n) w);
+        bytes = rw (k.bytes, append_assoc (before ++ flatten k.finished) (take progress w) (take (suc n) (drop progress w)), take-add progress (suc n) w);
         few = k.few;
       }
 
@@ -193,18 +193,18 @@ module _ (B : ℕ) (before : List ℕ) (es : History) where
       let p = permits_of s n v in
       one_accepted B before es e (take (suc n) (b ∷ bytes))
       (part_accepted i (min (suc n) (length (b ∷ bytes))) (b ∷ bytes) (omega arith) ∙ ap (λ (x : List ℕ). x ∷ []) (take_min (suc n) (b ∷ bytes)))
-      (no_turn refl (λ m. refl)) (let c = length_take (suc n) (b ∷ bytes) in let q = p.budget in omega arith) p.room k
+      (no_turn refl (λ m. refl)) (let c = length-take (suc n) (b ∷ bytes) in let q = p.budget in omega arith) p.room k
   way_accounting (begins_flush i n st h₁ h₂ h₃ h₄ h₅) k = by_nothing (refl, no_turn refl (λ m. refl)) k
   way_accounting (ends_flush i n h₁ h₂ h₃ h₄) k = by_nothing (refl, no_turn refl (λ m. refl)) k
 
 pub path_accounting : {B h : ℕ} {w : WriterBytes} {es : History} {s : Stream} {l : Lock} → Path B h w es s l → AccountingOf B w.taken es s
 path_accounting {B} {w = w} fresh_path =
-    record { finished = []; splits = refl; lengths = refl; budget = omega arith; movement = refl; partly = omega arith; bytes = unfold flatten in sym (append_nil (w.taken ++ []) ∙ append_nil w.taken); few = omega arith }
+    record { finished = []; splits = refl; lengths = refl; budget = omega arith; movement = refl; partly = omega arith; bytes = unfold flatten in sym (append-nil (w.taken ++ []) ∙ append-nil w.taken); few = omega arith }
 path_accounting {B} {w = w} (one_more {es = es} p x) = way_accounting B w.taken es x (path_accounting p)
 
 module _ (B : ℕ) (before : List ℕ) (es : History) (s : Stream) (k : AccountingOf B before es s) where
   pub count_finished : length (finished_lengths es) ≡ length k.finished
-  count_finished = ap length k.lengths ∙ length_map k.finished length
+  count_finished = ap length k.lengths ∙ length-map k.finished length
 
   finished_are : finished_writes es ≡ k.finished
   finished_are = rw k.splits (take_at k.finished s.unfinished (length (finished_lengths es)) (sym count_finished))

@@ -1,8 +1,8 @@
 -- Done means flushed: a handle's flush that answers done has covered what was accepted before it began.
 -- Assumes nothing.
-use Rattle.std.proofs.Common.{◌≡◌, ℕ, zero, suc, ◌+◌, ◌<◌, ◌≤◌, min, Bool, true, false, cond, eqb, ◌⊎◌, List, [], ◌∷◌, ◌++◌, length, get_or, take, replicate, Some, Ok, Err, Option, sym, refl, ap, ◌∙◌, subst, inl, inr, append_nil, arith, length_append}
+use Rattle.std.proofs.Common.{◌≡◌, ℕ, zero, suc, ◌+◌, ◌<◌, ◌≤◌, min, Bool, true, false, cond, eqb, ◌⊎◌, List, [], ◌∷◌, ◌++◌, length, get_or, take, replicate, Some, Ok, Err, Option, sym, refl, ap, ◌∙◌, subst, inl, inr, append-nil, arith, length-append}
 use mathlib.Core.List.{flatten}
-use lib.Seq.{take_append_le}
+use lib.Seq.{take-append-le}
 use borrow.Author.Tests.{both_ways}
 use Rattle.worker_stream.specs.StoreView.{oldest}
 use Rattle.worker_stream.specs.declared.write_stream.job.Turn.{Turn}
@@ -23,7 +23,7 @@ use Rattle.promises.proofs.Queue.{Same, same, apart, same?, there_below, own_vie
 length_flatten : (us : List (List ℕ)) → length (flatten us) ≡ total us
 unfolding flatten
 length_flatten [] = refl
-length_flatten (u ∷ us) = let k = length_flatten us in let l = length_append u (flatten us) in omega arith
+length_flatten (u ∷ us) = let k = length_flatten us in let l = length-append u (flatten us) in omega arith
 
 total_take : (n : ℕ) (us : List (List ℕ)) → total (take n us) ≤ total us
 total_take zero us = omega arith
@@ -38,7 +38,7 @@ present_le : (es : History) (i n : ℕ) → present_flush i es ≡ Some n → n 
 present_le start i n e = impossible (cc)
 present_le (es ▷ e) i n q =
     let k = present_by e i (present_flush i es) (length (accepted es)) n (λ x. present_le es i x) q in
-    let l = length_append (accepted es) (accepted_by e) in
+    let l = length-append (accepted es) (accepted_by e) in
     omega arith
 
 -- the first n accepted writes are finished, and covered
@@ -54,19 +54,19 @@ due_after : (before : List ℕ) (es : History) (e : Event) (p : Bool) (c n : ℕ
 due_after before es e p c n le (inl h) = inl h
 due_after before es e p c n le (inr h) =
     inr (record {
-      finished = let l = length_append (finished_lengths es) (on_turn e finished_in []) in let k = h.finished in omega arith;
-      count = rw (take_append_le n (accepted es) (accepted_by e) le) h.count;
+      finished = let l = length-append (finished_lengths es) (on_turn e finished_in []) in let k = h.finished in omega arith;
+      count = rw (take-append-le n (accepted es) (accepted_by e) le) h.count;
     })
 
 all_reached : (B : ℕ) (before : List ℕ) (es : History) (s : Stream) (n : ℕ) → AccountingOf B before es s → s.unfinished ≡ [] → n ≤ length (accepted es)
     → Reached before es (length s.writer.taken) n
 all_reached B before es s n k e le =
-    let acc : accepted es ≡ k.finished = k.splits ∙ ap (λ (u : List (List ℕ)). k.finished ++ u) e ∙ append_nil k.finished in
+    let acc : accepted es ≡ k.finished = k.splits ∙ ap (λ (u : List (List ℕ)). k.finished ++ u) e ∙ append-nil k.finished in
     let x = count_finished B before es s k in
     let y = ap length acc in
     let z = ap length k.bytes in
-    let l₁ = length_append (before ++ flatten k.finished) (take s.progress (oldest s.unfinished)) in
-    let l₂ = length_append before (flatten k.finished) in
+    let l₁ = length-append (before ++ flatten k.finished) (take s.progress (oldest s.unfinished)) in
+    let l₂ = length-append before (flatten k.finished) in
     let l₃ = length_flatten k.finished in
     let l₄ : total (take n (accepted es)) ≤ total k.finished = rw acc (total_take n k.finished) in
     record { finished = omega arith; count = omega arith }

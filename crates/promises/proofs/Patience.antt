@@ -1,6 +1,6 @@
 -- With patient handles, a handle stands in the queue exactly while a call of it is unanswered.
 -- Assumes nothing.
-use Rattle.std.proofs.Common.{◌≡◌, ℕ, ◌<◌, true, false, List, [], ◌∷◌, ◌++◌, length, Ok, Err, sym, refl, ap, ◌∙◌, subst, inl, inr, length_set}
+use Rattle.std.proofs.Common.{◌≡◌, ℕ, ◌<◌, true, false, List, [], ◌∷◌, ◌++◌, length, Ok, Err, sym, refl, ap, ◌∙◌, subst, inl, inr, length-set}
 use mathlib.Core.Path.{subst⁻¹}
 use Rattle.worker_stream.specs.declared.write_stream.job.Turn.{Turn}
 use Rattle.handles.specs.declared.handle.HandleState.{HandleState}
@@ -159,7 +159,7 @@ way_queueing es {l = l} {e} (begins_flush j n st c op h₂ h₃ h₄) rep k i = 
     q = without j (entry j l) ++ j ∷ []
 
     lt : j < length m.handles
-    lt = rw (length_set l.handles j (in_state Ready true)) (open_below j l op)
+    lt = rw (length-set l.handles j (in_state Ready true)) (open_below j l op)
 
     own : QueuedWhileUnanswered (es ▷ e) j st
     own = waits flushes (inl refl) (one_after_wait es e j flushes refl rep) tt (locking_or_locked st c)

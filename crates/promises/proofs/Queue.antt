@@ -1,9 +1,9 @@
 -- The queue invariant: which handles stand in the queue for the lock, and how many.
 -- Assumes nothing.
-use Rattle.std.proofs.Common.{◌≡◌, ℕ, zero, suc, ◌+◌, ◌<◌, ◌≤◌, Bool, true, false, cond, eqb, ◌⊎◌, List, [], ◌∷◌, ◌++◌, length, get_or, set, replicate, sym, refl, ap, ◌∙◌, subst, inl, inr, arith, length_append, length_set, get_or_set_other, get_or_set_same, eqb_true}
+use Rattle.std.proofs.Common.{◌≡◌, ℕ, zero, suc, ◌+◌, ◌<◌, ◌≤◌, Bool, true, false, cond, eqb, ◌⊎◌, List, [], ◌∷◌, ◌++◌, length, get_or, set, replicate, sym, refl, ap, ◌∙◌, subst, inl, inr, arith, length-append, length-set, get_or-set_other, get_or-set_same, eqb-true}
 use native.Mathlib.Decide.{dec_lt}
-use lib.ListN.{length_replicate, get_or_eq_default}
-use borrow.Author.Tests.{eqb_false}
+use lib.ListN.{length-replicate, get_or-eq_default}
+use borrow.Author.Tests.{eqb-false}
 use Rattle.handles.specs.declared.handle.HandleState.{HandleState}
 use Rattle.handles.specs.declared.handle.HandleState.TheVariants.{Ready, Locking, Locked, Closed, Dropped}
 use Rattle.promises.specs.SharedView.{HandleView, dropped, holds, joins, without}
@@ -22,8 +22,8 @@ pub same? : (x i : ℕ) → Same x i
 same? x i = go (eqb x i) refl
   where
     go : (b : Bool) → eqb x i ≡ b → Same x i
-    go true e = same e (eqb_true x i e)
-    go false e = apart e (eqb_false x i e)
+    go true e = same e (eqb-true x i e)
+    go false e = apart e (eqb-false x i e)
 
 -- how many stand before i in a queue
 abbrev pub position : ℕ → List ℕ → ℕ
@@ -114,16 +114,16 @@ put_invariant : (h : ℕ) (l : Lock) (i : ℕ) (x : HandleView) (q : List ℕ) �
     → QueueInvariant h (put i x q l)
 put_invariant h l i x q k lt own others len =
     record {
-      size = length_set l.handles i x ∙ k.size;
+      size = length-set l.handles i x ∙ k.size;
       each = λ j. go j (same? i j);
       whole = let c = count_queued_set l.handles i x lt in let w = k.whole in omega arith;
     }
   where
     go : (j : ℕ) → Same i j → occurrences j q ≡ queued (state_of j (put i x q l))
     go j (same e p) =
-        rw (← p) (own ∙ ap (λ (y : HandleView). queued y.state) (sym (get_or_set_same l.handles i x dropped lt)))
+        rw (← p) (own ∙ ap (λ (y : HandleView). queued y.state) (sym (get_or-set_same l.handles i x dropped lt)))
     go j (apart e p) =
-        others j p ∙ k.each j ∙ ap (λ (y : HandleView). queued y.state) (sym (get_or_set_other l.handles i j x dropped (λ z. p (sym z))))
+        others j p ∙ k.each j ∙ ap (λ (y : HandleView). queued y.state) (sym (get_or-set_other l.handles i j x dropped (λ z. p (sym z))))
 
 -- the queue once handle i has asked for the lock: i stands in it once
 pub record Entered (i : ℕ) (l : Lock) (q : List ℕ) : Type 0 where
@@ -142,7 +142,7 @@ entered h i l k o = go (state_of i l) refl o (k.each i)
         record {
           once = occurrences_snoc_same i l.queue ∙ ap suc (c ∙ z);
           others = λ j n. occurrences_snoc_other i j l.queue n;
-          longer = let m = length_append l.queue (i ∷ []) in omega arith;
+          longer = let m = length-append l.queue (i ∷ []) in omega arith;
           ahead = λ j n. position_snoc j i l.queue n;
           first_stays = λ p. holds_snoc p i l.queue;
         }
@@ -157,7 +157,7 @@ there_below i l n = go (dec_lt i (length l.handles))
   where
     go : Dec (i < length l.handles) → i < length l.handles
     go (yes h) = h
-    go (no h) = absurd (n (ap (λ (x : HandleView). x.state) (get_or_eq_default l.handles dropped (omega arith))))
+    go (no h) = absurd (n (ap (λ (x : HandleView). x.state) (get_or-eq_default l.handles dropped (omega arith))))
 
 module _ (h : ℕ) (l : Lock) (k : QueueInvariant h l) where
   pub stays_invariant : (i : ℕ) (st : HandleState) (mark : Bool) → queued st ≡ 1 → Open i l → QueueInvariant h (put i (in_state st mark) (entry i l) l)
@@ -184,12 +184,12 @@ module _ (h : ℕ) (l : Lock) (k : QueueInvariant h l) where
       let q = without i (entry i l) in
       let l' = put i (in_state Ready true) q l in
       let lt = open_below i l o in
-      let e : view_of i l' ≡ in_state Ready true = get_or_set_same l.handles i (in_state Ready true) dropped lt in
+      let e : view_of i l' ≡ in_state Ready true = get_or-set_same l.handles i (in_state Ready true) dropped lt in
       put_invariant h l' i (in_state st true) (q ++ i ∷ []) (hands_on_invariant i Ready true refl o)
-      (rw (length_set l.handles i (in_state Ready true)) lt)
+      (rw (length-set l.handles i (in_state Ready true)) lt)
       (occurrences_snoc_same i q ∙ ap suc (occurrences_without_same i (entry i l)) ∙ sym one)
       (λ j ne. occurrences_snoc_other i j q ne)
-      (let m = length_append q (i ∷ []) in let z : queued (state_of i l') ≡ 0 = ap (λ (x : HandleView). queued x.state) e in omega arith)
+      (let m = length-append q (i ∷ []) in let z : queued (state_of i l') ≡ 0 = ap (λ (x : HandleView). queued x.state) e in omega arith)
 
 pub locking_or_locked : (st : HandleState) → (st ≡ Locking) ⊎ (st ≡ Locked) → queued st ≡ 1
 locking_or_locked st (inl e) = ap queued e
@@ -218,7 +218,7 @@ way_invariant h {l = l} (ends_flush i n o m t v) k = hands_on_invariant h l k i 
 pub path_invariant : {B h : ℕ} {w : WriterBytes} {es : History} {s : Stream} {l : Lock} → Path B h w es s l → QueueInvariant h l
 path_invariant {h = h} fresh_path =
     record {
-      size = length_replicate h (in_state Ready false);
+      size = length-replicate h (in_state Ready false);
       each = λ i. sym (fresh_not_queued h i);
       whole = sym (count_queued_fresh h);
     }
@@ -229,7 +229,7 @@ queue_within h l k = let c = count_queued_le l.handles in let w = k.whole in let
 
 -- handle i's own view after it was put
 pub own_view : (l : Lock) (j i : ℕ) (x : HandleView) (q : List ℕ) → j ≡ i → j < length l.handles → view_of i (put j x q l) ≡ x
-own_view l j i x q e lt = subst (λ (k : ℕ). get_or (set l.handles j x) k dropped ≡ x) e (get_or_set_same l.handles j x dropped lt)
+own_view l j i x q e lt = subst (λ (k : ℕ). get_or (set l.handles j x) k dropped ≡ x) e (get_or-set_same l.handles j x dropped lt)
 
 pub other_view : (l : Lock) (j i : ℕ) (x : HandleView) (q : List ℕ) → ¬ (j ≡ i) → view_of i (put j x q l) ≡ view_of i l
-other_view l j i x q ne = get_or_set_other l.handles j i x dropped (λ z. ne (sym z))
+other_view l j i x q ne = get_or-set_other l.handles j i x dropped (λ z. ne (sym z))

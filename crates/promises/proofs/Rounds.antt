@@ -1,6 +1,6 @@
 -- Bounded waiting: each full round leaves fewer rounds to an unanswered call.
 -- Assumes nothing.
-use Rattle.std.proofs.Common.{◌≡◌, ℕ, suc, ◌+◌, ◌*◌, ◌<◌, ◌≤◌, Bool, true, false, ◌⊎◌, List, [], ◌∷◌, ◌++◌, length, Ok, sym, refl, ap, ◌∙◌, subst, inl, inr, mul_le_mul_right, arith, length_set, eq_eqb}
+use Rattle.std.proofs.Common.{◌≡◌, ℕ, suc, ◌+◌, ◌*◌, ◌<◌, ◌≤◌, Bool, true, false, ◌⊎◌, List, [], ◌∷◌, ◌++◌, length, Ok, sym, refl, ap, ◌∙◌, subst, inl, inr, mul-le-mul_right, arith, length-set, eq-eqb}
 use mathlib.Core.Path.{subst⁻¹}
 use borrow.Author.Tests.{both_ways}
 use Rattle.worker_stream.specs.declared.write_stream.job.Turn.{Turn}
@@ -52,13 +52,13 @@ most_rounds_le t flushes false x l = omega arith
 most_rounds_le t flushes true x l = omega arith
 
 fewer : (K x p p' w w' : ℕ) → p' < p → w' ≤ K → 0 < w → x + (p' * K + w') < x + (p * K + w)
-fewer K x p p' w w' h a b = let m : suc p' * K ≤ p * K = mul_le_mul_right K h in omega arith
+fewer K x p p' w w' h a b = let m : suc p' * K ≤ p * K = mul-le-mul_right K h in omega arith
 
 no_more : (K x p p' w w' : ℕ) → p' ≤ p → w' ≤ w → x + (p' * K + w') ≤ x + (p * K + w)
-no_more K x p p' w w' h a = let m : p' * K ≤ p * K = mul_le_mul_right K h in omega arith
+no_more K x p p' w w' h a = let m : p' * K ≤ p * K = mul-le-mul_right K h in omega arith
 
 within : (h K p w : ℕ) → p < h → w ≤ K → p * K + w ≤ h * K
-within h K p w l a = let m : suc p * K ≤ h * K = mul_le_mul_right K l in omega arith
+within h K p w l a = let m : suc p * K ≤ h * K = mul-le-mul_right K l in omega arith
 
 -- at a ready stream with p first: after an event it is so still, and the event was no call of p
 record StillFirst (p : ℕ) (e : Event) (t : Stream) (m : Lock) : Type 0 where
@@ -189,7 +189,7 @@ module _ (B h : ℕ) (before : List ℕ) (some_budget : 0 < B) (es : History) (i
       light = weight_le B before (es ▷ handle_flush j (Ok Pending)) t k'.accounts some_budget
 
       lt : j < length l₁.handles
-      lt = rw (length_set l.handles j (in_state Ready true)) (open_below j l op)
+      lt = rw (length-set l.handles j (in_state Ready true)) (open_below j l op)
 
       go : Same j i → Changes (handle_flush j (Ok Pending)) t m
       go (same e z) =
@@ -257,7 +257,7 @@ module _ (B h : ℕ) (before : List ℕ) (some_budget : 0 < B) (es : History) (i
     where
       go : (q : List ℕ) → 0 < occurrences i q → (p : ℕ) × (holds p q ≡ true)
       go [] n = absurd (omega arith)
-      go (x ∷ q) n = (x, eq_eqb x x refl)
+      go (x ∷ q) n = (x, eq-eqb x x refl)
 
   rounds_left_le : left s l ≤ most_rounds (h * K) a
   rounds_left_le =

@@ -1,8 +1,8 @@
 -- The worker stream with the bytes of its writer, the few ways of a host turn, and what each call leaves by the stream's status.
 -- Assumes nothing.
-use Rattle.std.proofs.Common.{◌≡◌, ℕ, zero, suc, ◌+◌, ◌<◌, ◌≤◌, Bool, true, false, cond, not, eqb, ltb, leb, ◌⊎◌, List, [], ◌∷◌, ◌++◌, length, take, drop, Some, None, Option, sym, refl, ap, ◌∙◌, inl, inr, append_nil, arith, length_drop, take_all, ltb_true, lt_ltb, eqb_true, le_leb, leb_true}
+use Rattle.std.proofs.Common.{◌≡◌, ℕ, zero, suc, ◌+◌, ◌<◌, ◌≤◌, Bool, true, false, cond, not, eqb, ltb, leb, ◌⊎◌, List, [], ◌∷◌, ◌++◌, length, take, drop, Some, None, Option, sym, refl, ap, ◌∙◌, inl, inr, append-nil, arith, length-drop, take_all, ltb-true, lt-ltb, eqb-true, le-leb, leb-true}
 use mathlib.Core.Path.{subst⁻¹}
-use borrow.Author.Tests.{eqb_false}
+use borrow.Author.Tests.{eqb-false}
 use Rattle.writer.specs.declared.answer.Fault.{Fault}
 use Rattle.writer.specs.declared.answer.Fault.TheVariants.{WriteZero}
 use Rattle.writer.specs.declared.answer.WriteAnswer.{WriteAnswer}
@@ -99,18 +99,18 @@ module _ {V : Type 0} (taken : V → List ℕ) (covered : V → ℕ) where
         → suc k ≤ length (drop s.progress w) → taken v ≡ taken s.writer ++ take (suc k) (drop s.progress w) → covered v ≡ covered s.writer
         → Leads (cond b (finishes (with_writer v s)) (moves (suc k) (with_writer v s)))
     took_way w us v k true e ha hu le p q =
-        let n = eqb_true (suc k) (length (drop s.progress w)) e in
+        let n = eqb-true (suc k) (length (drop s.progress w)) e in
         let a : take (suc k) (drop s.progress w) ≡ drop s.progress w = take_all (suc k) (drop s.progress w) (omega arith) in
         finishes_way w us v ha hu (p ∙ ap (λ (x : List ℕ). taken s.writer ++ x) a) q
     took_way w us v k false e ha hu le p q =
-        let n = eqb_false (suc k) (length (drop s.progress w)) e in
-        let d = length_drop s.progress w in
+        let n = eqb-false (suc k) (length (drop s.progress w)) e in
+        let d = length-drop s.progress w in
         subst⁻¹ (λ (b : WriterBytes). TurnWay (stream_of s) (Moved (suc k)) (with_writer b (with_progress (s.progress + suc k) (stream_of s)))) (bytes_are (taken v) (taken s.writer ++ take (suc k) (drop s.progress w)) (covered v) (covered s.writer) p q)
         (moving w us k ha hu (omega arith))
 
     offered_way : (w : List ℕ) (us : List (List ℕ)) (a : WriteAnswer) (v : V) → s.status ≡ Alive → s.unfinished ≡ w ∷ us
         → WriteMeans (taken s.writer) (covered s.writer) (drop s.progress w) a (taken v) (covered v) → Leads (after_write a (length (drop s.progress w)) (with_writer v s))
-    offered_way w us (Took zero) v ha hu m = fails_way WriteZero v ha (m.bytes ∙ append_nil (taken s.writer)) m.count
+    offered_way w us (Took zero) v ha hu m = fails_way WriteZero v ha (m.bytes ∙ append-nil (taken s.writer)) m.count
     offered_way w us (Took (suc k)) v ha hu m = took_way w us v k (eqb (suc k) (length (drop s.progress w))) refl ha hu m.within m.bytes m.count
     offered_way w us WriteNotYet v ha hu m = waits_way v m.bytes m.count
     offered_way w us (WriteFailed f) v ha hu m = fails_way f v ha m.bytes m.count
@@ -135,7 +135,7 @@ module _ {V : Type 0} (taken : V → List ℕ) (covered : V → ℕ) where
       work_way false ClosedStatus us p hc hs hu hp g = gives_way (stream_of s) (outcome Stopped s) r t g (stops (inr (not_alive_closed s.status hs)))
       work_way false Alive ([] ∷ us) p hc hs hu hp g =
           gives_way (stream_of s) (finishes s) r t g
-          (finishes_way s [] us s.writer hs hu (sym (append_nil (taken s.writer)) ∙ ap (λ (x : List ℕ). taken s.writer ++ x) (sym (lib.Seq.drop_nil s.progress))) refl)
+          (finishes_way s [] us s.writer hs hu (sym (append-nil (taken s.writer)) ∙ ap (λ (x : List ℕ). taken s.writer ++ x) (sym (lib.Seq.drop-nil s.progress))) refl)
       work_way false Alive ((b ∷ bs) ∷ us) p hc hs hu hp o =
           gives_way (stream_of s) (after_write o.answer (length (drop s.progress (b ∷ bs))) (with_writer o.writer s)) r t o.gives
           (offered_way s (b ∷ bs) us o.answer o.writer hs hu (wrote_law s.writer o.writer (drop s.progress (b ∷ bs)) o.answer o.tells))
@@ -198,8 +198,8 @@ module _ {V : Type 0} (s : WorkerView V) where
   accepted_write bytes a p f r =
       ap (λ (st : Status). refusal_at st s.pending (leb (length bytes) s.free) (ltb (length s.unfinished) 256)) a
       ∙ ap (λ (b : Bool). refusal_at Alive b (leb (length bytes) s.free) (ltb (length s.unfinished) 256)) p
-      ∙ ap (λ (b : Bool). refusal_at Alive false b (ltb (length s.unfinished) 256)) (le_leb (length bytes) s.free f)
-      ∙ ap (λ (b : Bool). refusal_at Alive false true b) (lt_ltb (length s.unfinished) 256 r)
+      ∙ ap (λ (b : Bool). refusal_at Alive false b (ltb (length s.unfinished) 256)) (le-leb (length bytes) s.free f)
+      ∙ ap (λ (b : Bool). refusal_at Alive false true b) (lt-ltb (length s.unfinished) 256 r)
 
   pub wrote_permitted : (n : ℕ) (bytes : List ℕ) → Permits s n → length bytes ≤ suc n → wrote s bytes ≡ accept bytes s
   wrote_permitted n bytes p l =
@@ -219,7 +219,7 @@ module _ {V : Type 0} (s : WorkerView V) where
   why_at bytes Alive true fits room hs hp hf hr = is_trap FlushPending
   why_at bytes Alive false false room hs hp hf hr = is_trap OverBudget
   why_at bytes Alive false true false hs hp hf hr = is_trap TooManyWrites
-  why_at bytes Alive false true true hs hp hf hr = accepts_it hs hp (leb_true (length bytes) s.free hf) (ltb_true (length s.unfinished) 256 hr)
+  why_at bytes Alive false true true hs hp hf hr = accepts_it hs hp (leb-true (length bytes) s.free hf) (ltb-true (length s.unfinished) 256 hr)
 
   pub write_why : (bytes : List ℕ) → WriteWhy bytes (write_refusal s bytes)
   write_why bytes = why_at bytes s.status s.pending (leb (length bytes) s.free) (ltb (length s.unfinished) 256) refl refl refl refl

@@ -1,9 +1,9 @@
 -- Each step goes one of a few ways: the case analysis of the rules, made once.
 -- Assumes nothing.
-use Rattle.std.proofs.Common.{◌≡◌, ℕ, zero, suc, ◌<◌, ◌≤◌, min, Bool, true, false, cond, ◌⊎◌, List, [], ◌∷◌, ◌++◌, length, get_or, take, set, Ok, Err, Option, Result, sym, refl, ap, ◌∙◌, inl, inr, arith, length_take, get_or_set_same}
+use Rattle.std.proofs.Common.{◌≡◌, ℕ, zero, suc, ◌<◌, ◌≤◌, min, Bool, true, false, cond, ◌⊎◌, List, [], ◌∷◌, ◌++◌, length, get_or, take, set, Ok, Err, Option, Result, sym, refl, ap, ◌∙◌, inl, inr, arith, length-take, get_or-set_same}
 use mathlib.Core.Path.{subst⁻¹}
 use native.Mathlib.Decide.{dec_lt}
-use lib.ListN.{get_or_eq_default}
+use lib.ListN.{get_or-eq_default}
 use Rattle.writer.specs.declared.answer.Fault.{Fault}
 use Rattle.writer.specs.declared.answer.WriteAnswer.{WriteAnswer}
 use Rattle.writer.specs.declared.answer.FlushAnswer.{FlushAnswer}
@@ -131,7 +131,7 @@ open_below i l o = go (dec_lt i (length l.handles))
     go : Dec (i < length l.handles) → i < length l.handles
     go (yes h) = h
     go (no h) =
-        let e : view_of i l ≡ dropped = get_or_eq_default l.handles dropped (omega arith) in
+        let e : view_of i l ≡ dropped = get_or-eq_default l.handles dropped (omega arith) in
         let z : false ≡ true = sym (ap (λ (x : HandleView). is_open x.state) e) ∙ o in
         impossible (cc)
 
@@ -194,7 +194,7 @@ module _ {V : Type 0} (taken : V → List ℕ) (covered : V → ℕ) where
       write_by_way (open_with zero) b bytes hm hh = keeps_lock i (writes (b ∷ bytes)) tt op hh hm
       write_by_way (open_with (suc n)) b bytes hm hh =
           leaves_stream (wrote str (take (suc n) (b ∷ bytes))) (accept (take (suc n) (b ∷ bytes)) str)
-          (wrote_permitted str n (take (suc n) (b ∷ bytes)) (permits_of str n hm) (let k = length_take (suc n) (b ∷ bytes) in omega arith))
+          (wrote_permitted str n (take (suc n) (b ∷ bytes)) (permits_of str n hm) (let k = length-take (suc n) (b ∷ bytes) in omega arith))
           (writes_part i b bytes n op hh hm)
 
       write_lock_way : (t : Bool) (b : ℕ) (bytes : List ℕ) → holds i (asked i s) ≡ t
@@ -238,7 +238,7 @@ module _ {V : Type 0} (taken : V → List ℕ) (covered : V → ℕ) where
       began_way n hm mk hh =
           let live = alive_when_open str (suc n) hm in
           let s₁ : SharedView (WorkerView V) = hands_on Ready true (with_pending true str) i s in
-          let own : get_or between i dropped ≡ in_state Ready true = get_or_set_same s.handles i (in_state Ready true) dropped (open_below i (lock_in s) op) in
+          let own : get_or between i dropped ≡ in_state Ready true = get_or-set_same s.handles i (in_state Ready true) dropped (open_below i (lock_in s) op) in
           subst⁻¹ (λ (x : WorkerView V). Leads (handle_flush i) (second_stage meaning checked flushed i (hands_on Ready true x i s))) (flushed_open str live)
           (subst⁻¹ (λ (m : Meaning). Leads (handle_flush i) (with_lock i s₁ (second_by meaning checked flushed m i s₁))) (ap (λ (st : _). meaning_of st 0) live)
           (subst⁻¹ (λ (x : HandleView). Leads (handle_flush i) (cond (holds i (joins x.state i handed)) (waits_anew Locked x) (waits_anew Locking x))) own

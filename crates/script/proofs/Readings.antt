@@ -1,9 +1,9 @@
 -- What the digits of a number say. Assumes nothing.
-use Rattle.std.proofs.Common.{◌≡◌, ℕ, ◌+◌, ◌-◌, ◌*◌, ◌^◌, ◌<◌, ◌≤◌, true, false, cond, List, [], ◌∷◌, length, get_or, take, Some, None, Option, sym, refl, ap, ◌∙◌, subst, ⊎_elim, arith, length_take_le}
+use Rattle.std.proofs.Common.{◌≡◌, ℕ, ◌+◌, ◌-◌, ◌*◌, ◌^◌, ◌<◌, ◌≤◌, true, false, cond, List, [], ◌∷◌, length, get_or, take, Some, None, Option, sym, refl, ap, ◌∙◌, subst, ⊎_elim, arith, length-take-le}
 use Rattle.std.proofs.lemmas.Int.Digits.{digits_more, digits_value_more}
 use Rattle.std.proofs.lemmas.List.{take_all}
 use Rattle.std.proofs.lemmas.Str.Parse.{IsNumeralModel, numerals_by_value, tells_all_ascii_digits, digit_at, digits_value_short}
-use Rattle.std.proofs.lemmas.Bool.{le_leb, cases_Bool, and_from, cond_true, cond_false, both_ways}
+use Rattle.std.proofs.lemmas.Bool.{le-leb, cases_Bool, and_from, cond-true, cond-false, both_ways}
 use Rattle.std.proofs.lemmas.Bool.Decides.{nat_tests}
 use Rattle.std.specs.Str.Parse.{AllDigits, digits_value}
 use Rattle.std.specs.Char.{is_ascii_digit, digit_value as digitValue}
@@ -35,14 +35,14 @@ read_more text i n v h so d e = record {
 
 pub read_small : (text : List ℕ) (i n : ℕ) → i < 9 → i < length text → Read text i n → n < 10 ^ 9
 read_small text i n short h so =
-    omega (arith, so.is, digits_value_short numerals (take i text) 9 (numerals.from (take i text) so.digits) (omega (arith, length_take_le i text (omega arith))))
+    omega (arith, so.is, digits_value_short numerals (take i text) 9 (numerals.from (take i text) so.digits) (omega (arith, length-take-le i text (omega arith))))
 
 -- the number of a text of digits
 abbrev pub text_value : List ℕ → Option ℕ
 text_value text = cond (all_ascii_digits text) (Some (digits_value 10 text)) None
 
 text_value_digits : (text : List ℕ) → AllDigits 10 text → text_value text ≡ Some (digits_value 10 text)
-text_value_digits text digits = cond_true _ _ _ (numerals.from text digits)
+text_value_digits text digits = cond-true _ _ _ (numerals.from text digits)
 
 pub value_of_digits : (text : List ℕ) (i n : ℕ) → length text ≤ i → Read text i n → Some n ≡ text_value text
 value_of_digits text i n all so =
@@ -53,9 +53,9 @@ pub none_without_digits : (text : List ℕ) (i : ℕ) → i < length text → is
 none_without_digits text i h d =
     ⊎_elim
     (λ all. let digit = digit_at text i (numerals.to text all) h in absurd (both_ways (is_ascii_digit (get_or text i 0)) d (grind (arith, nat_tests))))
-    (λ other. sym (cond_false _ _ _ other))
+    (λ other. sym (cond-false _ _ _ other))
     (cases_Bool (all_ascii_digits text))
 
 pub number_digits : (text : List ℕ) → 0 < length text → length text ≤ 9 → AllDigits 10 text → number text ≡ Some (digits_value 10 text)
 number_digits text some short digits =
-    cond_true _ _ _ (and_from _ _ (and_from _ _ (le_leb 1 (length text) (omega arith)) (le_leb (length text) 9 short)) (numerals.from text digits))
+    cond-true _ _ _ (and_from _ _ (and_from _ _ (le-leb 1 (length text) (omega arith)) (le-leb (length text) 9 short)) (numerals.from text digits))

@@ -1,5 +1,5 @@
 -- What a script prints, line by line. Assumes nothing.
-use Rattle.std.proofs.Common.{◌≡◌, ℕ, suc, ◌+◌, ◌<◌, ◌≤◌, Bool, true, false, List, [], ◌∷◌, ◌++◌, map, length, get_or, drop, Some, None, Option, sym, refl, ap, ◌∙◌, subst, append_assoc, append_nil, arith, length_append}
+use Rattle.std.proofs.Common.{◌≡◌, ℕ, suc, ◌+◌, ◌<◌, ◌≤◌, Bool, true, false, List, [], ◌∷◌, ◌++◌, map, length, get_or, drop, Some, None, Option, sym, refl, ap, ◌∙◌, subst, append_assoc, append-nil, arith, length-append}
 use Rattle.std.proofs.lemmas.List.{drop_more, drop_all}
 use Rattle.stream.specs.declared.limits.refusal.LimitsError.{LimitsError}
 use Rattle.stream.specs.LimitsRules.{refusal}
@@ -44,11 +44,11 @@ merge_more slots replies i next next' d all answers answers' a here pushed inv s
     ∙ sym (ap (λ said. said ++ merged (drop (i + 1) slots) (drop next' replies)) pushed ∙ append_assoc answers (a ∷ []) (merged (drop (i + 1) slots) (drop next' replies)))
 
 pub merge_all : (slots : List Slot) (replies : List Reply) (i next : ℕ) (all answers : List Answer) → length slots ≤ i → all ≡ answers ++ merged (drop i slots) (drop next replies) → answers ≡ all
-merge_all slots replies i next all answers past inv = sym (inv ∙ ap (λ ss. answers ++ merged ss (drop next replies)) (drop_all i slots past) ∙ append_nil answers)
+merge_all slots replies i next all answers past inv = sym (inv ∙ ap (λ ss. answers ++ merged ss (drop next replies)) (drop_all i slots past) ∙ append-nil answers)
 
 -- each line has one slot, and each slot one answer
 one_slot : (slots : List Slot) (x : Slot) → length (slots ++ x ∷ []) ≡ suc (length slots)
-one_slot slots x = length_append slots (x ∷ []) ∙ omega arith
+one_slot slots x = length-append slots (x ∷ []) ∙ omega arith
 
 plan_slot : (cs : List CallView) (entry : PlanEntry) (r : Read) → length (plans cs entry r).slots ≡ suc (length r.slots)
 plan_slot [] entry r = go _

@@ -1,7 +1,7 @@
 -- What asking for the lock leaves, by what the poll met. Assumes nothing.
 use Rattle.std.proofs.Common.{◌≡◌, ℕ, ◌<◌, Bool, true, false, cond, List, [], ◌∷◌, ◌++◌, length, set, sym, refl, ap, ◌∙◌, subst, arith}
 use native.Mathlib.Decide.{dec_lt}
-use lib.Seq.{set_get_or}
+use lib.Seq.{set-get_or}
 use Rattle.std.proofs.lemmas.List.{get_or_past}
 use Rattle.handles.specs.declared.handle.HandleState.{HandleState}
 use Rattle.handles.specs.declared.handle.HandleState.TheVariants.{Ready, Locking, Locked, Closed, Dropped}
@@ -77,7 +77,7 @@ met_in_line Locked Flush e = record { open_now = refl; wanted = refl; place = λ
 
 module _ {V : Type 0} (h : ℕ) (request : Request) (s : SharedView V) where
   unchanged : (hs : List HandleView) → hs ≡ set s.handles h (handle h s) → record { stream = s.stream; queue = s.queue; handles = hs } ≡ s
-  unchanged hs e = ap (λ xs. record { stream = s.stream; queue = s.queue; handles = xs }) (e ∙ set_get_or s.handles h dropped)
+  unchanged hs e = ap (λ xs. record { stream = s.stream; queue = s.queue; handles = xs }) (e ∙ set-get_or s.handles h dropped)
 
   pub none_there : (hs : List HandleView) → NoSuchHandle ≡ met (handle h s).state request → hs ≡ set s.handles h (handle h s) → Refused h s (record { stream = s.stream; queue = s.queue; handles = hs })
   none_there hs m e = record { state = met_none (handle h s).state request m; left = unchanged hs e }

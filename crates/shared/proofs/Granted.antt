@@ -1,5 +1,5 @@
 -- A handle that entered the queue and holds the lock meets what it would have met before it entered. Assumes nothing.
-use Rattle.std.proofs.Common.{◌≡◌, ℕ, zero, suc, ◌<◌, Bool, List, length, ap, ◌∙◌, get_or_set_same, set_set}
+use Rattle.std.proofs.Common.{◌≡◌, ℕ, zero, suc, ◌<◌, Bool, List, length, ap, ◌∙◌, get_or-set_same, set-set}
 use Rattle.stream.specs.Meaning.{Meaning, faulted, closed, open_with}
 use Rattle.handles.specs.declared.handle.HandleState.{HandleState}
 use Rattle.handles.specs.declared.handle.HandleState.TheVariants.{Locking}
@@ -8,7 +8,7 @@ use Rattle.promises.specs.Polls.{outcome, write_by, second_by, second_stage, fir
 
 module _ {S : Type 0} (h : ℕ) (s : SharedView S) (there : h < length s.handles) where
   pub entered_handle : handle h (waits Locking h s) ≡ record { state = Locking; mark = (handle h s).mark }
-  entered_handle = get_or_set_same s.handles h (record { state = Locking; mark = (handle h s).mark }) dropped there
+  entered_handle = get_or-set_same s.handles h (record { state = Locking; mark = (handle h s).mark }) dropped there
 
   pub entered_state : (handle h (waits Locking h s)).state ≡ Locking
   entered_state = ap (λ (x : HandleView). x.state) entered_handle
@@ -22,12 +22,12 @@ module _ {S : Type 0} (h : ℕ) (s : SharedView S) (there : h < length s.handles
   pub waits_again : (st : HandleState) → waits st h (waits Locking h s) ≡ waits st h s
   waits_again st =
       ap (λ q. record { stream = s.stream; queue = q; handles = with_handle h st (handle h (waits Locking h s)).mark (waits Locking h s) }) entered_queue
-      ∙ ap (λ xs. record { stream = s.stream; queue = asked h s; handles = xs }) (set_set s.handles h _ _ ∙ ap (λ mark. with_handle h st mark s) entered_mark)
+      ∙ ap (λ xs. record { stream = s.stream; queue = asked h s; handles = xs }) (set-set s.handles h _ _ ∙ ap (λ mark. with_handle h st mark s) entered_mark)
 
   pub hands_on_again : (st : HandleState) (mark : Bool) (stream : S) → hands_on st mark stream h (waits Locking h s) ≡ hands_on st mark stream h s
   hands_on_again st mark stream =
       ap (λ q. record { stream = stream; queue = without h q; handles = with_handle h st mark (waits Locking h s) }) entered_queue
-      ∙ ap (λ xs. record { stream = stream; queue = without h (asked h s); handles = xs }) (set_set s.handles h _ _)
+      ∙ ap (λ xs. record { stream = stream; queue = without h (asked h s); handles = xs }) (set-set s.handles h _ _)
 
   hands_on_marked : (st : HandleState) (stream : S) → hands_on st (handle h (waits Locking h s)).mark stream h (waits Locking h s) ≡ hands_on st (handle h s).mark stream h s
   hands_on_marked st stream = hands_on_again st (handle h (waits Locking h s)).mark stream ∙ ap (λ mark. hands_on st mark stream h s) entered_mark

@@ -1,5 +1,5 @@
 -- The queue of a lock, as it lies in an array. Assumes nothing.
-use Rattle.std.proofs.Common.{◌≡◌, ℕ, zero, suc, ◌+◌, ◌<◌, ◌≤◌, Bool, true, false, cond, eqb, List, [], ◌∷◌, ◌++◌, length, get_or, take, set, sym, refl, ap, ◌∙◌, append_nil, arith, eq_eqb, ne_eqb}
+use Rattle.std.proofs.Common.{◌≡◌, ℕ, zero, suc, ◌+◌, ◌<◌, ◌≤◌, Bool, true, false, cond, eqb, List, [], ◌∷◌, ◌++◌, length, get_or, take, set, sym, refl, ap, ◌∙◌, append-nil, arith, eq-eqb, ne_eqb}
 use Rattle.std.proofs.lemmas.List.{take_more, take_more_set}
 use Rattle.promises.specs.SharedView.{holds, without}
 
@@ -34,4 +34,4 @@ module _ (h : ℕ) (q : List ℕ) (i : ℕ) (here : i < length q) where
   -- the handle that leaves
   pub without_skip : (line : List ℕ) (n : ℕ) → get_or q i 0 ≡ h → take n line ≡ without h (take i q) → take n line ≡ without h (take (i + 1) q)
   without_skip line n same e =
-      e ∙ sym (ap (without h) (take_more q i 0 here) ∙ without_push h (take i q) (get_or q i 0) ∙ ap (λ b. without h (take i q) ++ cond b [] (get_or q i 0 ∷ [])) (eq_eqb (get_or q i 0) h same) ∙ append_nil (without h (take i q)))
+      e ∙ sym (ap (without h) (take_more q i 0 here) ∙ without_push h (take i q) (get_or q i 0) ∙ ap (λ b. without h (take i q) ++ cond b [] (get_or q i 0 ∷ [])) (eq-eqb (get_or q i 0) h same) ∙ append-nil (without h (take i q)))

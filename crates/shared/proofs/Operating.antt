@@ -1,5 +1,5 @@
 -- What a poll meets of a stream, by its meaning. Assumes nothing.
-use Rattle.std.proofs.Common.{◌≡◌, ℕ, zero, suc, ◌-◌, ◌<◌, ◌≤◌, min, false, List, length, take, Ok, Err, Result, sym, refl, ap, ◌∙◌, subst, arith, ltb_false}
+use Rattle.std.proofs.Common.{◌≡◌, ℕ, zero, suc, ◌-◌, ◌<◌, ◌≤◌, min, false, List, length, take, Ok, Err, Result, sym, refl, ap, ◌∙◌, subst, arith, ltb-false}
 use native.Mathlib.Decide.{dec_le}
 use Rattle.std.proofs.lemmas.List.{take_all}
 use Rattle.stream.specs.declared.error.StreamError.{StreamError}
@@ -14,7 +14,7 @@ pub waits_unready : {S : Type 0} (call : S → S) (m : Meaning) (s : S) → read
 waits_unready call (faulted f) s e = absurd (let z : ◌≡◌ {A = ℕ} 0 1 = cc in omega arith)
 waits_unready call closed s e = absurd (let z : ◌≡◌ {A = ℕ} 0 1 = cc in omega arith)
 waits_unready call (open_with zero) s e = record { told = refl; after = refl }
-waits_unready call (open_with (suc n)) s e = absurd (omega (arith, ltb_false 0 (suc n) e))
+waits_unready call (open_with (suc n)) s e = absurd (omega (arith, ltb-false 0 (suc n) e))
 
 pub permitted : (m : Meaning) (n : ℕ) → permit m ≡ Ok n → m ≡ open_with n
 permitted (faulted f) n e = absurd (let z : ◌≡◌ {A = ℕ} 0 1 = cc in omega arith)

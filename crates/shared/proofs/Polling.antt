@@ -1,5 +1,5 @@
 -- The polls of a handle, by how asking for the lock ended. Assumes nothing.
-use Rattle.std.proofs.Common.{◌≡◌, ℕ, suc, ◌<◌, ◌≤◌, Bool, true, false, cond, eqb, List, [], ◌∷◌, length, Ok, sym, refl, ap, ◌∙◌, arith, get_or_set_same}
+use Rattle.std.proofs.Common.{◌≡◌, ℕ, suc, ◌<◌, ◌≤◌, Bool, true, false, cond, eqb, List, [], ◌∷◌, length, Ok, sym, refl, ap, ◌∙◌, arith, get_or-set_same}
 use Rattle.stream.specs.Meaning.{Meaning}
 use Rattle.handles.specs.declared.handle.HandleState.{HandleState}
 use Rattle.handles.specs.declared.handle.HandleState.TheVariants.{Ready, Locking, Locked, Closed, Dropped}
@@ -66,7 +66,7 @@ module _ {S : Type 0} (meaning : S → Meaning) (checked : S → S) (h : ℕ) (s
 
 -- after the first stage the handle is Ready, and there is room for it in the line
 pub ready_again : {S : Type 0} (h : ℕ) (s t : SharedView S) (mark ended : Bool) → h < length s.handles → t ≡ given_back {X = Unit {0}} (Ok (Answer tt)) mark ended h s → is_open (handle h t).state ≡ true
-ready_again h s t mark ended there e = ap (λ v. is_open (handle h v).state) e ∙ ap (λ (x : HandleView). is_open x.state) (get_or_set_same s.handles h (record { state = Ready; mark = mark }) dropped there)
+ready_again h s t mark ended there e = ap (λ v. is_open (handle h v).state) e ∙ ap (λ (x : HandleView). is_open x.state) (get_or-set_same s.handles h (record { state = Ready; mark = mark }) dropped there)
 
 shorter : (h : ℕ) (q : List ℕ) → length (without h q) ≤ length q
 shorter h [] = omega arith

@@ -1,5 +1,5 @@
 -- Every call of a handle keeps the rule of the queue. Assumes nothing.
-use Rattle.std.proofs.Common.{◌≡◌, ℕ, zero, suc, ◌<◌, ◌≤◌, Bool, true, false, cond, List, [], ◌∷◌, length, get_or, set, replicate, Ok, sym, refl, ap, ◌∙◌, arith, length_set, length_take, get_or_set_same}
+use Rattle.std.proofs.Common.{◌≡◌, ℕ, zero, suc, ◌<◌, ◌≤◌, Bool, true, false, cond, List, [], ◌∷◌, length, get_or, set, replicate, Ok, sym, refl, ap, ◌∙◌, arith, length-set, length-take, get_or-set_same}
 use Rattle.stream.specs.Meaning.{Meaning, faulted, closed, open_with}
 use Rattle.handles.specs.declared.handle.HandleState.{HandleState}
 use Rattle.handles.specs.declared.handle.HandleState.TheVariants.{Ready, Locking, Locked, Closed, Dropped}
@@ -66,7 +66,7 @@ module _ {S : Type 0} (n h : ℕ) where
     first_by_keeps flushed (open_with zero) s o k = stays_invariant n (lock_of s) k h Locked (handle h s).mark refl o
     first_by_keeps flushed (open_with (suc j)) s o k =
         let t = hands_on Ready true (flushed s.stream) h s in
-        let ready : Open h (lock_of t) = ap (λ (x : HandleView). is_open x.state) (get_or_set_same s.handles h (record { state = Ready; mark = true }) dropped (open_below h (lock_of s) o)) in
+        let ready : Open h (lock_of t) = ap (λ (x : HandleView). is_open x.state) (get_or-set_same s.handles h (record { state = Ready; mark = true }) dropped (open_below h (lock_of s) o)) in
         second_keeps flushed t ready (hands_on_invariant n (lock_of s) k h Ready true refl o)
 
     pub flush_keeps : (flushed : S → S) (s : SharedView S) → QueueInvariant n (lock_of s) → QueueInvariant n (lock_of (poll_flush meaning checked flushed h s).left)
@@ -98,7 +98,7 @@ room_to_join n h l k few ready =
     let c = count_queued_set l.handles h x below in
     let none : queued (get_or l.handles h dropped).state ≡ 0 = ap queued ready in
     let m = count_queued_le (set l.handles h x) in
-    omega (arith, c, none, m, length_set l.handles h x, k.size, k.whole)
+    omega (arith, c, none, m, length-set l.handles h x, k.size, k.whole)
 
 -- the rule of the queue, as a shared stream carries it
 module _ {S V : Type 0} (view : S → V) (a : AsyncStdoutStream S) where
@@ -106,7 +106,7 @@ module _ {S V : Type 0} (view : S → V) (a : AsyncStdoutStream S) where
   carried = record { size = refl; each = a.each; whole = a.whole }
 
   pub room : (h : ℕ) → (handle h (shared_view view a)).state ≡ Ready → length (queue_of a.parts.lock) < 16
-  room h ready = room_to_join (length (handles_of a.parts.table)) h (lock_of (shared_view view a)) carried (omega (arith, a.parts.table.few, length_take a.parts.table.count a.parts.table.handles)) ready
+  room h ready = room_to_join (length (handles_of a.parts.table)) h (lock_of (shared_view view a)) carried (omega (arith, a.parts.table.few, length-take a.parts.table.count a.parts.table.handles)) ready
 
 pub carries_on : {V : Type 0} (n : ℕ) (t v : SharedView V) → t ≡ v → QueueInvariant n (lock_of v) → EachQueued t.queue t.handles × (NoMoreQueued t.queue t.handles × Unit {0})
 carries_on n t v e k = rw e (k.each, (k.whole, tt))

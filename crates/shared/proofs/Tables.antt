@@ -1,7 +1,7 @@
 -- The handles of a table, as they lie in its array. Assumes nothing.
-use Rattle.std.proofs.Common.{◌≡◌, ℕ, ◌<◌, ◌≤◌, length, get_or, take, set, sym, ap, ◌∙◌, arith, length_take, get_or_take}
+use Rattle.std.proofs.Common.{◌≡◌, ℕ, ◌<◌, ◌≤◌, length, get_or, take, set, sym, ap, ◌∙◌, arith, length-take, get_or-take}
 use native.Mathlib.Decide.{dec_lt}
-use lib.Seq.{take_set_lt}
+use lib.Seq.{take-set-lt}
 use Rattle.std.proofs.lemmas.List.{get_or_default, get_or_past, set_past}
 use Rattle.handles.specs.declared.handle.HandleState.TheVariants.{Dropped}
 use Rattle.promises.specs.SharedView.{HandleView, dropped}
@@ -13,16 +13,16 @@ use Rattle.shared.specs.TableOf.{handles_of}
 
 module _ (t : Table) (number : ℕ) where
   pub get_within : (d : HandleView) → number < t.count → get_or t.handles number d ≡ get_or (handles_of t) number dropped
-  get_within d here = get_or_default t.handles number d dropped (omega (arith, t.few, t.sized)) ∙ sym (get_or_take t.count t.handles number dropped here)
+  get_within d here = get_or_default t.handles number d dropped (omega (arith, t.few, t.sized)) ∙ sym (get_or-take t.count t.handles number dropped here)
 
   past : t.count ≤ number → length (handles_of t) ≤ number
-  past h = simp length_take (omega arith)
+  past h = simp length-take (omega arith)
 
   pub get_past : t.count ≤ number → get_or (handles_of t) number dropped ≡ dropped
   get_past h = get_or_past (handles_of t) number dropped (past h)
 
   pub set_within : (x : HandleView) → number < t.count → take t.count (set t.handles number x) ≡ set (handles_of t) number x
-  set_within x here = take_set_lt t.count t.handles number x here
+  set_within x here = take-set-lt t.count t.handles number x here
 
   pub set_beyond : (x : HandleView) → t.count ≤ number → set (handles_of t) number x ≡ handles_of t
   set_beyond x h = set_past (handles_of t) number x (past h)

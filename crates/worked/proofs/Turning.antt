@@ -1,5 +1,5 @@
 -- The one turn that a planned memory writer allows. Assumes nothing.
-use Rattle.std.proofs.Common.{◌≡◌, ℕ, zero, suc, ◌+◌, ◌≤◌, Bool, true, false, cond, ltb, leb, List, [], ◌∷◌, ◌++◌, length, take, replicate, Ok, refl, subst, arith, length_append, lt_ltb, le_leb}
+use Rattle.std.proofs.Common.{◌≡◌, ℕ, zero, suc, ◌+◌, ◌≤◌, Bool, true, false, cond, ltb, leb, List, [], ◌∷◌, ◌++◌, length, take, replicate, Ok, refl, subst, arith, length-append, lt-ltb, le-leb}
 use Rattle.planned_writer.specs.declared.plan.PlanEntry.{PlanEntry}
 use Rattle.planned_writer.specs.declared.plan.PlanEntry.TheVariants.{AtMost, NotYet, Fail}
 use Rattle.writer.specs.declared.answer.Fault.TheVariants.{Device}
@@ -107,7 +107,7 @@ pub empty_writes :
 unfolding Shows
 empty_writes zero s more lives open_now few h = h
 empty_writes (suc n) s more lives open_now few h =
-    let room : ltb (length s.unfinished) 256 ≡ true = lt_ltb (length s.unfinished) 256 (omega arith) in
-    let fits : leb 0 s.free ≡ true = le_leb 0 s.free (omega arith) in
+    let room : ltb (length s.unfinished) 256 ≡ true = lt-ltb (length s.unfinished) 256 (omega arith) in
+    let fits : leb 0 s.free ≡ true = le-leb 0 s.free (omega arith) in
     let left : wrote s [] ≡ accept [] s = rw (lives, open_now, fits, room) in
-    (rw (lives, open_now, fits, room), rw left (empty_writes n (accept [] s) more lives open_now (simp length_append (omega arith)) h))
+    (rw (lives, open_now, fits, room), rw left (empty_writes n (accept [] s) more lives open_now (simp length-append (omega arith)) h))

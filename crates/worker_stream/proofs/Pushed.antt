@@ -1,7 +1,7 @@
 -- A store after one write more was queued. Assumes nothing.
-use Rattle.std.proofs.Common.{◌≡◌, ℕ, ◌+◌, ◌-◌, ◌<◌, ◌≤◌, List, [], ◌∷◌, ◌++◌, length, get_or, take, drop, set, sym, refl, ap, ◌∙◌, arith, length_append, length_drop, length_take}
+use Rattle.std.proofs.Common.{◌≡◌, ℕ, ◌+◌, ◌-◌, ◌<◌, ◌≤◌, List, [], ◌∷◌, ◌++◌, length, get_or, take, drop, set, sym, refl, ap, ◌∙◌, arith, length-append, length-drop, length-take}
 use Rattle.std.proofs.lemmas.List.{take_more_set}
-use Rattle.std.proofs.lemmas.Slice.{take_put_mid_below, between_put_mid}
+use Rattle.std.proofs.lemmas.Slice.{take-put_mid_below, between-put_mid}
 use borrow.Rule.Slice.PartMut.{put_mid}
 use Rattle.worker_stream.specs.declared.write_stream.store.Store.{Store}
 use Rattle.worker_stream.specs.Lengths.{sum_of}
@@ -26,15 +26,15 @@ module _ (s : Store) (p q : List ℕ) (few : s.count < 256) (room : s.used + len
   along_pushed = rw lengths_pushed (first_push (take s.count s.lengths) (length p) s.progress s.along)
 
   pub length_stored : length (put_mid s.used (s.used + length p - s.used) s.bytes q) ≡ 4096
-  length_stored = simp (is, length_append, length_take, length_drop) (omega (arith, s.sized))
+  length_stored = simp (is, length-append, length-take, length-drop) (omega (arith, s.sized))
 
   front_kept : take s.used (put_mid s.used (s.used + length p - s.used) s.bytes q) ≡ take s.used s.bytes
-  front_kept = take_put_mid_below s.used (s.used + length p - s.used) s.bytes q s.used (omega arith) (omega (arith, s.sized))
+  front_kept = take-put_mid_below s.used (s.used + length p - s.used) s.bytes q s.used (omega arith) (omega (arith, s.sized))
 
   part_stored : take (length p) (drop s.used (put_mid s.used (s.used + length p - s.used) s.bytes q)) ≡ p
   part_stored =
       ap (λ n. take n (drop s.used (put_mid s.used (s.used + length p - s.used) s.bytes q))) (omega arith)
-      ∙ between_put_mid s.used (s.used + length p - s.used) s.bytes q (s.used + length p) (omega (arith, s.sized)) (ap length is ∙ omega arith)
+      ∙ between-put_mid s.used (s.used + length p - s.used) s.bytes q (s.used + length p) (omega (arith, s.sized)) (ap length is ∙ omega arith)
       ∙ is
 
   pub queue_pushed : cuts (take (s.count + 1) (set s.lengths s.count (length p))) (put_mid s.used (s.used + length p - s.used) s.bytes q) ≡ unfinished s ++ p ∷ []

@@ -1,6 +1,6 @@
 -- A permit of the worker stream holds over host turns. Assumes nothing.
 use Rattle.std.specs.Prelude.{◌≡◌, ℕ, zero, suc, ◌+◌, ◌-◌, ◌<◌, ◌≤◌, Bool, true, false, cond, not, ◌⊎◌, List, [], ◌∷◌, length, Some, None, Ok, Err, Option, ◌==◌, nat_lt, refl}
-use Rattle.std.proofs.Common.{sym, ◌∙◌, arith, length_drop, lt_ltb, le_leb, ltb_true}
+use Rattle.std.proofs.Common.{sym, ◌∙◌, arith, length-drop, lt-ltb, le-leb, ltb-true}
 use Rattle.std.proofs.Math.Path.{ap, subst}
 use Rattle.std.proofs.Math.Logic.{inl, inr}
 use Rattle.writer.specs.declared.answer.Fault.{Fault}
@@ -33,17 +33,17 @@ module _ {V : Type 0} where
   TakesOrFails n s = Takes n s ⊎ ((f : Fault) × (s.status ≡ Faulted f))
 
   takes_open : (n : ℕ) (s : WorkerView V) → Takes n s → meaning s ≡ open_with s.free
-  takes_open n s h = rw (h.lives, h.no_flush, lt_ltb (length s.unfinished) 256 h.few)
+  takes_open n s h = rw (h.lives, h.no_flush, lt-ltb (length s.unfinished) 256 h.few)
 
   takes_accepts : (n : ℕ) (s : WorkerView V) (bytes : List ℕ) → Takes n s → length bytes ≤ n → accepts s bytes ≡ Ok tt
   takes_accepts n s bytes h small =
-      rw (h.lives, h.no_flush, le_leb (length bytes) s.free (omega (arith, h.room)), lt_ltb (length s.unfinished) 256 h.few)
+      rw (h.lives, h.no_flush, le-leb (length bytes) s.free (omega (arith, h.room)), lt-ltb (length s.unfinished) 256 h.few)
 
   fault_told : (s : WorkerView V) (bytes : List ℕ) (f : Fault) → s.status ≡ Faulted f → accepts s bytes ≡ Err (LastOperationFailed f)
   fault_told s bytes f e = rw e
 
   finished_takes : (n : ℕ) (s : WorkerView V) → Takes n s → Takes n (finishes s).view
-  finished_takes n s h = record { lives = h.lives; no_flush = h.no_flush; room = omega (arith, h.room); few = simp length_drop (omega (arith, h.few)) }
+  finished_takes n s h = record { lives = h.lives; no_flush = h.no_flush; room = omega (arith, h.room); few = simp length-drop (omega (arith, h.few)) }
 
   took_takes : (n k offered : ℕ) (s : WorkerView V) → Takes n s → TakesOrFails n (took k offered s).view
   unfolding TakesOrFails
@@ -120,7 +120,7 @@ module _ {V : Type 0} where
     where
       go : (st : Status) (p l : Bool) → s.status ≡ st → s.pending ≡ p → nat_lt (length s.unfinished) 256 ≡ l → permit (meaning_of st (cond p 0 (cond l s.free 0))) ≡ Ok n → Takes n s × (checked s ≡ s)
       go Alive false true a b c e =
-          (record { lives = a; no_flush = b; room = (let q : s.free ≡ n = cc in omega arith); few = ltb_true (length s.unfinished) 256 c }, rw a)
+          (record { lives = a; no_flush = b; room = (let q : s.free ≡ n = cc in omega arith); few = ltb-true (length s.unfinished) 256 c }, rw a)
       go Alive false false a b c e = absurd (let q : 0 ≡ n = cc in omega arith)
       go Alive true l a b c e = absurd (let q : 0 ≡ n = cc in omega arith)
       go (Faulted f) p l a b c e = absurd (let z : ◌≡◌ {A = ℕ} 0 1 = cc in omega arith)

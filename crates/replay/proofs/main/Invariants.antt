@@ -1,5 +1,5 @@
 use Rattle.std.proofs.Common.{length}
 use Rattle.replay.proofs.main.Given as goal
 
-abbrev pub decreases_loop_line : goal.decreases_loop_line
-decreases_loop_line l = length l.rest
+abbrev pub decreases-loop-line : goal.decreases-loop-line
+decreases-loop-line l = length l.rest

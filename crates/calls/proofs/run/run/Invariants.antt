@@ -6,11 +6,11 @@ use Rattle.calls.specs.Calls.{call_view, Performed}
 use Rattle.shared.specs.SharedOf.{shared_view}
 use Rattle.calls.proofs.run.run.Given as goal
 
-abbrev pub invariant_loop_call : goal.invariant_loop_call
-invariant_loop_call g l =
+abbrev pub invariant-loop-call : goal.invariant-loop-call
+invariant-loop-call g l =
     let W = g.W.Writer in
     let view = shared_view (worker_view W.view) in
-    (l.call_index ≤ length l.calls)
-    × (vec_len l.answers ≡ l.call_index)
+    (l.call-index ≤ length l.calls)
+    × (vec_len l.answers ≡ l.call-index)
     × (length l.calls ≤ vec_capacity l.answers)
-    × ((es : History) × Performed (map call_view (take l.call_index l.calls)) (vec_items l.answers) es × Run W.writes W.flushes (view l.initial.stream).stream.free (length (view l.initial.stream).handles) (view l.initial.stream).stream.writer es (view l.stream))
+    × ((es : History) × Performed (map call_view (take l.call-index l.calls)) (vec_items l.answers) es × Run W.writes W.flushes (view l.initial.stream).stream.free (length (view l.initial.stream).handles) (view l.initial.stream).stream.writer es (view l.stream))

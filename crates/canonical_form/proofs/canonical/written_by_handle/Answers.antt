@@ -1,9 +1,9 @@
 use Rattle.std.proofs.Common.{◌∙◌}
-use Rattle.std.proofs.lemmas.Result.{IfOk_weaker}
+use Rattle.std.proofs.lemmas.Result.{IfOk-weaker}
 use Rattle.canonical_form.proofs.RoundTrip.{canonical_handle_write}
 use Rattle.canonical_form.proofs.canonical.written_by_handle.Goals as goal
 
 pub returns : goal.returns
 returns c = record {
-  made = IfOk_weaker c.with_bytes.result _ _ (λ v e. e ∙ canonical_handle_write c.args.handle c.args.bytes.now _ c.in_ok_format.ensures.ok) c.with_bytes.ensures.made;
+  made = IfOk-weaker c.with-bytes.result _ _ (λ v e. e ∙ canonical_handle_write c.args.handle c.args.bytes.now _ c.in-ok-format.ensures.ok) c.with-bytes.ensures.made;
 }

@@ -2,21 +2,21 @@ use Rattle.std.proofs.Common.{sym, arith}
 use Rattle.script.proofs.Readings.{read_none, read_more, read_small, value_of_digits, none_without_digits}
 use Rattle.script.proofs.number.digits_value.Goals as goal
 
-pub loop_byte_init : goal.loop_byte_init
-loop_byte_init c = read_none _
+pub loop-byte-init : goal.loop-byte-init
+loop-byte-init c = read_none _
 
-pub returns_then_not_is_ascii_digit : goal.returns_then_not_is_ascii_digit
-returns_then_not_is_ascii_digit c = record { value = none_without_digits _ _ c.loop_byte_test.true (sym c.if_not_is_ascii_digit.ensures.value) }
+pub returns-then-not-is-ascii-digit : goal.returns-then-not-is-ascii-digit
+returns-then-not-is-ascii-digit c = record { value = none_without_digits _ _ c.loop-byte-test.true (sym c.if-not-is-ascii-digit.ensures.value) }
 
-pub overflow_mul_value : goal.overflow_mul_value
-overflow_mul_value c = omega (arith, read_small _ _ _ (omega arith) c.loop_byte_test.true c.loop_byte.invariant)
+pub overflow-mul-value : goal.overflow-mul-value
+overflow-mul-value c = omega (arith, read_small _ _ _ (omega arith) c.loop-byte-test.true c.loop-byte.invariant)
 
-pub overflow_add_value : goal.overflow_add_value
-overflow_add_value c = omega (arith, read_small _ _ _ (omega arith) c.loop_byte_test.true c.loop_byte.invariant, c.type_inv.text c.loop_byte.byte_index)
+pub overflow-add-value : goal.overflow-add-value
+overflow-add-value c = omega (arith, read_small _ _ _ (omega arith) c.loop-byte-test.true c.loop-byte.invariant, c.type-inv.text c.loop-byte.byte-index)
 
-pub loop_byte_preserved : goal.loop_byte_preserved
-loop_byte_preserved c =
-    read_more _ _ _ _ c.loop_byte_test.true c.loop_byte.invariant (sym c.if_not_is_ascii_digit.ensures.value) c.from.ensures
+pub loop-byte-preserved : goal.loop-byte-preserved
+loop-byte-preserved c =
+    read_more _ _ _ _ c.loop-byte-test.true c.loop-byte.invariant (sym c.if-not-is-ascii-digit.ensures.value) c.from.ensures
 
 pub returns : goal.returns
-returns c = record { value = value_of_digits _ _ _ c.loop_byte_test.false c.loop_byte.invariant }
+returns c = record { value = value_of_digits _ _ _ c.loop-byte-test.false c.loop-byte.invariant }

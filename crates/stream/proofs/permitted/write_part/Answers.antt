@@ -2,8 +2,8 @@ use Rattle.std.proofs.Common.{rules}
 use Rattle.stream.proofs.UnderPermit.{never_traps}
 use Rattle.stream.proofs.permitted.write_part.Goals as goal
 
-pub unreachable_requires : goal.unreachable_requires
-unreachable_requires g c =
+pub unreachable-requires : goal.unreachable-requires
+unreachable-requires g c =
     let S = g.S.OutputStream in
     let laws = g.met.S.OutputStream in
     let permitted = c.requires.permitted in

@@ -2,11 +2,11 @@ use Rattle.std.proofs.Common.{◌≡◌, length, vec_items, vec_len, arith, rule
 use Rattle.memory_pipe.specs.Pipes.{room_within, copied_is, accepted_is}
 use Rattle.memory_pipe.proofs.pipe.MemoryOutputPipe.append.Goals as goal
 
-pub slice_bounds_copy_from_slice_end : goal.slice_bounds_copy_from_slice_end
-slice_bounds_copy_from_slice_end c = let within = room_within c.args.self.now _ c.requires.room in search rules
+pub slice-bounds-copy-from-slice-end : goal.slice-bounds-copy-from-slice-end
+slice-bounds-copy-from-slice-end c = let within = room_within c.args.self.now _ c.requires.room in search rules
 
-pub invariant_of_self : goal.invariant_of_self
-invariant_of_self c =
+pub invariant-of-self : goal.invariant-of-self
+invariant-of-self c =
     let p = c.args.self.now in
     (omega (arith, p.buffer.ok, room_within p _ c.requires.room), tt)
 
@@ -17,5 +17,5 @@ returns c =
     let bytes = c.args.bytes.now in
     let long : length xs ≡ vec_len p.buffer = search rules in
     let within = room_within p _ c.requires.room in
-    let copied = copied_is p.held xs bytes within _ _ _ long c.deref_mut.ensures.value c.copy_from_slice.ensures.after in
+    let copied = copied_is p.held xs bytes within _ _ _ long c.deref-mut.ensures.value c.copy-from-slice.ensures.after in
     record { left = accepted_is p.held xs bytes within _ copied }

@@ -2,8 +2,8 @@ use Rattle.std.proofs.Common.{◌<◌, rules}
 use Rattle.planned_writer.specs.Plans.{left_at, left_none}
 use Rattle.planned_writer.proofs.planned.PlannedWriter.next.Goals as goal
 
-pub returns_then_self : goal.returns_then_self
-returns_then_self g c =
+pub returns-then-self : goal.returns-then-self
+returns-then-self g c =
     let p = c.args.self.now in
     record { told = left_none p.entries p.planned p.spent (search rules) }
 

@@ -8,5 +8,5 @@ pub returns : goal.returns
 returns c =
     let r = c.args.self.now in
     let slots : vec_items c.push.new.self ≡ vec_items r.slots ++ Called ∷ [] = search rules in
-    let calls : vec_items c.push_2.new.self ≡ vec_items r.calls ++ c.args.call ∷ [] = search rules in
-    one_call (writer_view r.writer) (vec_items r.slots) (vec_items c.push.new.self) (vec_items r.calls) (vec_items c.push_2.new.self) c.args.call slots calls
+    let calls : vec_items c.push-2.new.self ≡ vec_items r.calls ++ c.args.call ∷ [] = search rules in
+    one_call (writer_view r.writer) (vec_items r.slots) (vec_items c.push.new.self) (vec_items r.calls) (vec_items c.push-2.new.self) c.args.call slots calls

@@ -4,20 +4,20 @@ use Rattle.shared.specs.PartsOf.{parts_view}
 use Rattle.shared.proofs.Polling.{first_granted, second_granted, flush_marked, flush_unmarked}
 use Rattle.shared.proofs.locked_async.parts.Parts.poll_flush.Goals as goal
 
-pub returns_in_Granted : goal.returns_in_Granted
-returns_in_Granted g c =
+pub returns-in-Granted : goal.returns-in-Granted
+returns-in-Granted g c =
     let O = g.S.OutputStream in
     let s = parts_view O.view c.args.self.now in
     let t = parts_view O.view c.acquire.new.self in
-    let entered = c.in_Granted.ensures.0 in
-    flush_marked O.meaning O.checked c.args.number s t O.flushed _ _ entered.open_now (ap (λ (x : HandleView). x.mark) (sym c.get_mark.ensures) ∙ c.if_mark.true)
-    (second_granted O.meaning O.checked c.args.number s t O.flushed _ _ entered c.end_granted.ensures)
+    let entered = c.in-Granted.ensures.0 in
+    flush_marked O.meaning O.checked c.args.number s t O.flushed _ _ entered.open_now (ap (λ (x : HandleView). x.mark) (sym c.get-mark.ensures) ∙ c.if-mark.true)
+    (second_granted O.meaning O.checked c.args.number s t O.flushed _ _ entered c.end-granted.ensures)
 
-pub returns_in_Granted_2 : goal.returns_in_Granted_2
-returns_in_Granted_2 g c =
+pub returns-in-Granted-2 : goal.returns-in-Granted-2
+returns-in-Granted-2 g c =
     let O = g.S.OutputStream in
     let s = parts_view O.view c.args.self.now in
     let t = parts_view O.view c.acquire.new.self in
-    let entered = c.in_Granted_2.ensures.0 in
-    flush_unmarked O.meaning O.checked c.args.number s t O.flushed _ _ entered.open_now (ap (λ (x : HandleView). x.mark) (sym c.get_mark.ensures) ∙ c.if_mark.false)
-    (first_granted O.meaning O.checked c.args.number s t O.flushed _ _ entered c.begin_granted.ensures)
+    let entered = c.in-Granted-2.ensures.0 in
+    flush_unmarked O.meaning O.checked c.args.number s t O.flushed _ _ entered.open_now (ap (λ (x : HandleView). x.mark) (sym c.get-mark.ensures) ∙ c.if-mark.false)
+    (first_granted O.meaning O.checked c.args.number s t O.flushed _ _ entered c.begin-granted.ensures)

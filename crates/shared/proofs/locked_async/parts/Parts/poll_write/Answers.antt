@@ -1,11 +1,11 @@
-use Rattle.std.proofs.Common.{length, sym, ◌∙◌, ltb_true}
+use Rattle.std.proofs.Common.{length, sym, ◌∙◌, ltb-true}
 use Rattle.shared.specs.PartsOf.{parts_view}
 use Rattle.shared.proofs.Polling.{write_granted}
 use Rattle.shared.proofs.locked_async.parts.Parts.poll_write.Goals as goal
 
-pub returns_in_Granted : goal.returns_in_Granted
-returns_in_Granted g c =
+pub returns-in-Granted : goal.returns-in-Granted
+returns-in-Granted g c =
     let O = g.S.OutputStream in
-    let entered = c.in_Granted.ensures.0 in
+    let entered = c.in-Granted.ensures.0 in
     write_granted O.meaning O.checked c.args.number (parts_view O.view c.args.self.now) (parts_view O.view c.acquire.new.self) O.wrote c.args.bytes.now c.requested.result _ _
-    (ltb_true 0 (length c.args.bytes.now) (sym c.requested.ensures ∙ entered.wanted)) entered c.write_granted.ensures
+    (ltb-true 0 (length c.args.bytes.now) (sym c.requested.ensures ∙ entered.wanted)) entered c.write-granted.ensures

@@ -4,12 +4,12 @@ use Rattle.shared.specs.TableOf.{handles_of}
 use Rattle.shared.proofs.Tables.{get_within, get_past, set_within, set_beyond, below_any}
 use Rattle.shared.proofs.locked_async.table.Table.ask.Goals as goal
 
-pub returns_then_number_self : goal.returns_then_number_self
-returns_then_number_self c =
+pub returns-then-number-self : goal.returns-then-number-self
+returns-then-number-self c =
     let t = c.args.self.now in
     record {
-      told = sym (ap (λ x. met x.state c.args.request) (get_past t c.args.number c.if_number_self.true));
-      left = sym (set_beyond t c.args.number _ c.if_number_self.true);
+      told = sym (ap (λ x. met x.state c.args.request) (get_past t c.args.number c.if-number-self.true));
+      left = sym (set_beyond t c.args.number _ c.if-number-self.true);
       bound = tt;
     }
 
@@ -17,7 +17,7 @@ pub returns : goal.returns
 returns c =
     let t = c.args.self.now in
     let n = c.args.number in
-    let here = c.if_number_self.false in
+    let here = c.if-number-self.false in
     let is = get_within t n _ here in
     record {
       told = c.ask.ensures.told ∙ ap (λ x. met x.state c.args.request) is;

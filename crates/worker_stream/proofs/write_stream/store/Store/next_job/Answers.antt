@@ -2,18 +2,18 @@ use Rattle.std.proofs.Common.{refl, arith, rules}
 use Rattle.worker_stream.proofs.Oldest.{progress_within, first_within, next_is_rest}
 use Rattle.worker_stream.proofs.write_stream.store.Store.next_job.Goals as goal
 
-pub slice_bounds_result_count : goal.slice_bounds_result_count
-slice_bounds_result_count c = omega (arith, progress_within c.args.self.now c.if_self_gt0.true)
+pub slice-bounds-result-count : goal.slice-bounds-result-count
+slice-bounds-result-count c = omega (arith, progress_within c.args.self.now c.if-self-gt0.true)
 
-pub slice_bounds_result_start : goal.slice_bounds_result_start
-slice_bounds_result_start c = let h = progress_within c.args.self.now c.if_self_gt0.true in search rules
+pub slice-bounds-result-start : goal.slice-bounds-result-start
+slice-bounds-result-start c = let h = progress_within c.args.self.now c.if-self-gt0.true in search rules
 
-pub slice_bounds_result_end : goal.slice_bounds_result_end
-slice_bounds_result_end c =
+pub slice-bounds-result-end : goal.slice-bounds-result-end
+slice-bounds-result-end c =
     let s = c.args.self.now in
-    let h = first_within s c.if_self_gt0.true in
+    let h = first_within s c.if-self-gt0.true in
     let w = s.within in
     search rules
 
-pub returns_then_self_gt0 : goal.returns_then_self_gt0
-returns_then_self_gt0 c = next_is_rest c.args.self.now c.if_self_gt0.true c.args.flush_pending _ refl
+pub returns-then-self-gt0 : goal.returns-then-self-gt0
+returns-then-self-gt0 c = next_is_rest c.args.self.now c.if-self-gt0.true c.args.flush-pending _ refl

@@ -3,16 +3,16 @@ use Rattle.worker_stream.proofs.Oldest.{unfinished_count}
 use Rattle.worker_stream.proofs.Pushed.{whole_pushed, along_pushed, length_stored, queue_pushed}
 use Rattle.worker_stream.proofs.write_stream.store.Store.push.Goals as goal
 
-pub bounds_self_k : goal.bounds_self_k
-bounds_self_k c = omega (arith, unfinished_count c.args.self.now, c.requires.few)
+pub bounds-self-k : goal.bounds-self-k
+bounds-self-k c = omega (arith, unfinished_count c.args.self.now, c.requires.few)
 
-pub invariant_of_self : goal.invariant_of_self
-invariant_of_self c =
+pub invariant-of-self : goal.invariant-of-self
+invariant-of-self c =
     let s = c.args.self.now in
     let p = c.args.bytes.now in
     let few : s.count < 256 = omega (arith, unfinished_count s, c.requires.few) in
-    let q = c.copy_from_slice.new.self in
-    let is = c.copy_from_slice.ensures.after in
+    let q = c.copy-from-slice.new.self in
+    let is = c.copy-from-slice.ensures.after in
     (length_stored s p q few c.requires.room is, (search rules, (omega arith, (whole_pushed s p q few c.requires.room is, (along_pushed s p q few c.requires.room is, (omega (arith, c.requires.room), tt))))))
 
 pub returns : goal.returns
@@ -20,7 +20,7 @@ returns c =
     let s = c.args.self.now in
     let few : s.count < 256 = omega (arith, unfinished_count s, c.requires.few) in
     record {
-      queued = queue_pushed s c.args.bytes.now c.copy_from_slice.new.self few c.requires.room c.copy_from_slice.ensures.after;
+      queued = queue_pushed s c.args.bytes.now c.copy-from-slice.new.self few c.requires.room c.copy-from-slice.ensures.after;
       progress = search rules;
       used = search rules;
     }
