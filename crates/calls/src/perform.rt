@@ -13,7 +13,7 @@ use writer::Writer;
 
 // Makes the call.
 pub fn perform<W: Writer>(stream: &mut AsyncStdoutStream<AsyncWriteStream<W>>, call: Call) -> Answer
-    ensures { (e : Event) × Pairs (call_view call.entry) result e × Step writes flushes (shared_view (worker_view view) stream.old) e (shared_view (worker_view view) stream.new) }
+    ensures { (e : Event) × Pairs (call_view call.entry) result e × Step W.writes W.flushes (shared_view (worker_view W.view) stream.old) e (shared_view (worker_view W.view) stream.new) }
 {
     match call {
         Call::Write(bytes) => Answer::Write(stream.write(bytes)),

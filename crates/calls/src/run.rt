@@ -27,7 +27,7 @@ pub fn run<W: Writer>(
     calls: &[Call],
     room: Vec<Answer>,
 ) -> Result<RunOutcome<W>, (W, Vec<Answer>)>
-    ensures { MatchResult result (λ o. (length calls.now ≤ vec_capacity room) × Ran taken covered writes flushes limits.budget limits.handles (view writer) (map call_view calls.now) o.answers.items (shared_view (worker_view view) o.stream)) (λ back. (vec_capacity room < length calls.now) × (back.0 ≡ writer) × (back.1 ≡ room)) }
+    ensures { MatchResult result (λ o. (length calls.now ≤ vec_capacity room) × Ran W.taken W.covered W.writes W.flushes limits.budget limits.handles (W.view writer) (map call_view calls.now) o.answers.items (shared_view (worker_view W.view) o.stream)) (λ back. (vec_capacity room < length calls.now) × (back.0 ≡ writer) × (back.1 ≡ room)) }
 {
     if room.capacity() < calls.len() {
         return Err((writer, room));

@@ -6,7 +6,7 @@ use writer::Writer;
 
 // Conservation, done means flushed and bounded waiting, for every history of a stream over W.
 pub fn promises_hold<W: Writer>() -> u8
-    ensures { Promises taken covered writes flushes }
+    ensures { Promises W.taken W.covered W.writes W.flushes }
 {
     0
 }

@@ -22,9 +22,9 @@ loop-call-preserved g c =
     let view = shared_view (worker_view W.view) in
     let inv = c.loop-call.invariant in (
       omega (arith, c.loop-call-test.true),
-      omega (arith, c.push-reserved.ensures.len, inv.1),
-      omega (arith, c.push-reserved.ensures.capacity, inv.2),
-      one_more c.args.calls.now c.loop-call.call-index _ (vec_items c.loop-call.answers) (vec_items c.push-reserved.new.self) c.perform-answer.result (view c.loop-call.stream) (view c.perform-answer.new.stream) c.loop-call-test.true c.push-reserved.ensures.items inv.3 c.perform-answer.ensures,
+      omega (arith, c.push_reserved.ensures.len, inv.1),
+      omega (arith, c.push_reserved.ensures.capacity, inv.2),
+      one_more c.args.calls.now c.loop-call.call-index _ (vec_items c.loop-call.answers) (vec_items c.push_reserved.new.self) c.perform-answer.result (view c.loop-call.stream) (view c.perform-answer.new.stream) c.loop-call-test.true c.push_reserved.ensures.items inv.3 c.perform-answer.ensures,
     )
 
 pub returns : goal.returns

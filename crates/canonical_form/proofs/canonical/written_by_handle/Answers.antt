@@ -5,5 +5,5 @@ use Rattle.canonical_form.proofs.canonical.written_by_handle.Goals as goal
 
 pub returns : goal.returns
 returns c = record {
-  made = IfOk-weaker c.with-bytes.result _ _ (λ v e. e ∙ canonical_handle_write c.args.handle c.args.bytes.now _ c.in-ok-format.ensures.ok) c.with-bytes.ensures.made;
+  made = IfOk-weaker c.with_bytes.result _ _ (λ v e. e ∙ canonical_handle_write c.args.handle c.args.bytes.now _ c.in_ok-format.ensures.ok) c.with_bytes.ensures.made;
 }

@@ -12,12 +12,12 @@ use Rattle.session.proofs.play.play.Goals as goal
 
 pub returns : goal.returns
 returns c =
-    let r = c.in-ok-reading.reading in
+    let r = c.in_ok-reading.reading in
     let l = c.args.limits in
     let o = c.in-Ok.outcome in
-    let slots = c.as-slice-in-Ok.result.now in
-    let replies = c.as-slice-in-Ok-2.result.now in
+    let slots = c.as_slice-in-Ok.result.now in
+    let replies = c.as_slice-in-Ok-2.result.now in
     IfOk-weaker c.merge.result (λ v. vec_items v ≡ merged slots replies) (λ v. Played l.budget l.handles (lines_read unread (lines c.args.text.now)) (vec_items v))
-    (λ v m. played l.budget l.handles (lines_read unread (lines c.args.text.now)) (writer_view r.writer) (vec_items r.slots) slots (vec_items r.calls) c.as-slice.result.now (vec_items o.answers) replies
-    (shared_view (worker_view writer_view) o.stream) (vec_items v) c.in-ok-reading.ensures c.as-slice-in-Ok.ensures.value c.as-slice.ensures.value c.as-slice-in-Ok-2.ensures.value c.in-Ok.ensures.1 m)
+    (λ v m. played l.budget l.handles (lines_read unread (lines c.args.text.now)) (writer_view r.writer) (vec_items r.slots) slots (vec_items r.calls) c.as_slice.result.now (vec_items o.answers) replies
+    (shared_view (worker_view writer_view) o.stream) (vec_items v) c.in_ok-reading.ensures c.as_slice-in-Ok.ensures.value c.as_slice.ensures.value c.as_slice-in-Ok-2.ensures.value c.in-Ok.ensures.1 m)
     c.merge.ensures

@@ -7,4 +7,4 @@ use Rattle.session.proofs.play.read_lines.Goals as goal
 
 pub returns : goal.returns
 returns c =
-    sym (ap (λ r. lines_read r (lines c.args.text.now)) (sym c.in-ok-reading.ensures) ∙ c.loop-line.invariant ∙ ap (lines_read (read_of c.loop-line.reading)) (no_lines c.loop-line.rest.now c.in-default.ensures.cases))
+    sym (ap (λ r. lines_read r (lines c.args.text.now)) (sym c.in_ok-reading.ensures) ∙ c.loop-line.invariant ∙ ap (lines_read (read_of c.loop-line.reading)) (no_lines c.loop-line.rest.now c.in_default.ensures.cases))

@@ -20,9 +20,9 @@ returns-in-Ok c =
     c.play.ensures in
     record { answers = answers; each = IfOk-weaker c.play.result (λ v. ScriptAnswers ls (vec_items v)) (λ v. OneEach ls (vec_items v)) (λ v h. one_each ls (vec_items v) h) answers }
 
-pub returns-in-default : goal.returns-in-default
-returns-in-default c =
+pub returns-in_default : goal.returns-in_default
+returns-in_default c =
     let ls = lines c.args.text.now in
     let answers =
-    IfOk-weaker c.only.result (λ v. vec_items v ≡ Misfit ∷ []) (λ v. ScriptAnswers ls (vec_items v)) (λ v e. rw (no_lines c.args.text.now c.in-default.ensures.cases) e) c.only.ensures in
+    IfOk-weaker c.only.result (λ v. vec_items v ≡ Misfit ∷ []) (λ v. ScriptAnswers ls (vec_items v)) (λ v e. rw (no_lines c.args.text.now c.in_default.ensures.cases) e) c.only.ensures in
     record { answers = answers; each = IfOk-weaker c.only.result (λ v. ScriptAnswers ls (vec_items v)) (λ v. OneEach ls (vec_items v)) (λ v h. one_each ls (vec_items v) h) answers }

@@ -11,7 +11,7 @@ pub(crate) fn write_permitted<S: OutputStream>(
     bytes: &[u8],
 ) -> Result<Poll<usize>, StreamError>
     requires { 0 < length bytes.now }
-    ensures { WriteOperation checked wrote (meaning (view stream.old)) bytes.now (view stream.old) result (view stream.new) }
+    ensures { WriteOperation S.checked S.wrote (S.meaning (S.view stream.old)) bytes.now (S.view stream.old) result (S.view stream.new) }
 {
     let permit = stream.check_write()?;
     if permit == 0 {
@@ -26,7 +26,7 @@ pub(crate) fn write_permitted<S: OutputStream>(
 
 // The first stage of a flush.
 pub(crate) fn begin_flush<S: OutputStream>(stream: &mut S) -> Result<Poll<()>, StreamError>
-    ensures { StageOperation flushed (meaning (view stream.old)) (view stream.old) result (view stream.new) }
+    ensures { StageOperation S.flushed (S.meaning (S.view stream.old)) (S.view stream.old) result (S.view stream.new) }
 {
     if !stream.ready() {
         return Ok(Poll::Pending);
@@ -37,7 +37,7 @@ pub(crate) fn begin_flush<S: OutputStream>(stream: &mut S) -> Result<Poll<()>, S
 
 // The second stage of a flush.
 pub(crate) fn end_flush<S: OutputStream>(stream: &mut S) -> Result<Poll<()>, StreamError>
-    ensures { StageOperation checked (meaning (view stream.old)) (view stream.old) result (view stream.new) }
+    ensures { StageOperation S.checked (S.meaning (S.view stream.old)) (S.view stream.old) result (S.view stream.new) }
 {
     if !stream.ready() {
         return Ok(Poll::Pending);

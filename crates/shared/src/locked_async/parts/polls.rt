@@ -38,8 +38,8 @@ impl<S: OutputStream> Parts<S> {
 
     // Takes the lock for a handle, or has it stand in line.
     fn acquire(&mut self, number: usize, request: Request) -> Acquired
-        requires { Room number (parts_view view self.old) }
-        ensures { Acquires number request (parts_view view self.old) result (parts_view view self.new) }
+        requires { Room number (parts_view S.view self.old) }
+        ensures { Acquires number request (parts_view S.view self.old) result (parts_view S.view self.new) }
     {
         match self.table.ask(number, request) {
             Met::NoSuchHandle => Acquired::NoSuchHandle,
@@ -62,7 +62,7 @@ impl<S: OutputStream> Parts<S> {
         ended: bool,
     )
         requires { grant.handle ≡ number }
-        ensures { parts_view view self.new ≡ given_back res done ended number (parts_view view self.old) }
+        ensures { parts_view S.view self.new ≡ given_back res done ended number (parts_view S.view self.old) }
     {
         match res {
             Ok(Poll::Pending) => {
@@ -90,8 +90,8 @@ impl<S: OutputStream> Parts<S> {
     ) -> Result<Poll<usize>, HandleError>
         requires same { grant.handle ≡ number }
         requires some { 0 < length bytes.now }
-        requires state { (handle number (parts_view view self.old)).state ≡ Locking }
-        ensures { Gives (write_by meaning checked wrote (meaning (view self.old.stream)) number bytes.now (parts_view view self.old)) result (parts_view view self.new) }
+        requires state { (handle number (parts_view S.view self.old)).state ≡ Locking }
+        ensures { Gives (write_by S.meaning S.checked S.wrote (S.meaning (S.view self.old.stream)) number bytes.now (parts_view S.view self.old)) result (parts_view S.view self.new) }
     {
         let mark = self.table.get(number).mark;
         let result = write_permitted(&mut self.stream, bytes);
@@ -102,8 +102,8 @@ impl<S: OutputStream> Parts<S> {
     // The second stage of a flush of the holder.
     fn end_granted(&mut self, number: usize, grant: Grant) -> Result<Poll<()>, HandleError>
         requires same { grant.handle ≡ number }
-        requires state { (handle number (parts_view view self.old)).state ≡ Locking }
-        ensures { Gives (second_by meaning checked flushed (meaning (view self.old.stream)) number (parts_view view self.old)) result (parts_view view self.new) }
+        requires state { (handle number (parts_view S.view self.old)).state ≡ Locking }
+        ensures { Gives (second_by S.meaning S.checked S.flushed (S.meaning (S.view self.old.stream)) number (parts_view S.view self.old)) result (parts_view S.view self.new) }
     {
         let result = end_flush(&mut self.stream);
         self.give_back(number, grant, result, false, false);
@@ -112,9 +112,9 @@ impl<S: OutputStream> Parts<S> {
 
     // The second stage of a flush: the lock is taken anew.
     fn second_stage(&mut self, number: usize) -> Result<Poll<()>, HandleError>
-        requires room { Room number (parts_view view self.old) }
-        requires state { is_open (handle number (parts_view view self.old)).state ≡ true }
-        ensures { Gives (second_stage meaning checked flushed number (parts_view view self.old)) result (parts_view view self.new) }
+        requires room { Room number (parts_view S.view self.old) }
+        requires state { is_open (handle number (parts_view S.view self.old)).state ≡ true }
+        ensures { Gives (second_stage S.meaning S.checked S.flushed number (parts_view S.view self.old)) result (parts_view S.view self.new) }
     {
         match self.acquire(number, Request::Flush) {
             Acquired::Granted(grant) => self.end_granted(number, grant),
@@ -127,10 +127,10 @@ impl<S: OutputStream> Parts<S> {
     // The first stage of a flush of the holder; once the stream has accepted the flush, the second follows.
     fn begin_granted(&mut self, number: usize, grant: Grant) -> Result<Poll<()>, HandleError>
         requires same { grant.handle ≡ number }
-        requires there { number < length (parts_view view self.old).handles }
-        requires holder { holds number (parts_view view self.old).queue ≡ true }
-        requires state { (handle number (parts_view view self.old)).state ≡ Locking }
-        ensures { Gives (first_by meaning checked flushed (meaning (view self.old.stream)) number (parts_view view self.old)) result (parts_view view self.new) }
+        requires there { number < length (parts_view S.view self.old).handles }
+        requires holder { holds number (parts_view S.view self.old).queue ≡ true }
+        requires state { (handle number (parts_view S.view self.old)).state ≡ Locking }
+        ensures { Gives (first_by S.meaning S.checked S.flushed (S.meaning (S.view self.old.stream)) number (parts_view S.view self.old)) result (parts_view S.view self.new) }
     {
         let mark = self.table.get(number).mark;
         match begin_flush(&mut self.stream) {
@@ -154,8 +154,8 @@ impl<S: OutputStream> Parts<S> {
         number: usize,
         bytes: &[u8],
     ) -> Result<Poll<usize>, HandleError>
-        requires { Room number (parts_view view self.old) }
-        ensures { Gives (poll_write meaning checked wrote number bytes.now (parts_view view self.old)) result (parts_view view self.new) }
+        requires { Room number (parts_view S.view self.old) }
+        ensures { Gives (poll_write S.meaning S.checked S.wrote number bytes.now (parts_view S.view self.old)) result (parts_view S.view self.new) }
     {
         match self.acquire(number, requested(bytes)) {
             Acquired::Granted(grant) => self.write_granted(number, grant, bytes),
@@ -166,8 +166,8 @@ impl<S: OutputStream> Parts<S> {
     }
 
     pub(crate) fn poll_flush(&mut self, number: usize) -> Result<Poll<()>, HandleError>
-        requires { Room number (parts_view view self.old) }
-        ensures { Gives (poll_flush meaning checked flushed number (parts_view view self.old)) result (parts_view view self.new) }
+        requires { Room number (parts_view S.view self.old) }
+        ensures { Gives (poll_flush S.meaning S.checked S.flushed number (parts_view S.view self.old)) result (parts_view S.view self.new) }
     {
         let mark = self.table.get(number).mark;
         match self.acquire(number, Request::Flush) {
@@ -181,7 +181,7 @@ impl<S: OutputStream> Parts<S> {
 
     // A drop leaves the line, or hands the lock on, and is final.
     pub(crate) fn drop_handle(&mut self, number: usize) -> Result<(), HandleError>
-        ensures { Gives (drop_handle number (parts_view view self.old)) result (parts_view view self.new) }
+        ensures { Gives (drop_handle number (parts_view S.view self.old)) result (parts_view S.view self.new) }
     {
         if let HandleState::Dropped = self.table.get(number).state {
             return Err(HandleError::NoSuchHandle);

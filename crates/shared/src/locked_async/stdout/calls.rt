@@ -15,7 +15,7 @@ use stream::{Limits, OutputStream};
 impl<S: OutputStream> AsyncStdoutStream<S> {
     // A shared stream just made: every handle Ready, the lock free.
     pub fn over(limits: Limits, stream: S) -> Self
-        ensures { shared_view view result ≡ fresh (view stream) limits.handles }
+        ensures { shared_view S.view result ≡ fresh (S.view stream) limits.handles }
     {
         AsyncStdoutStream {
             parts: Parts {
@@ -34,7 +34,7 @@ impl<S: OutputStream> AsyncStdoutStream<S> {
     }
 
     pub fn write(&mut self, bytes: &[u8]) -> Result<(), DirectError>
-        ensures { Gives (direct_write accepts wrote bytes.now (shared_view view self.old)) result (shared_view view self.new) }
+        ensures { Gives (direct_write S.accepts S.wrote bytes.now (shared_view S.view self.old)) result (shared_view S.view self.new) }
     {
         if !self.parts.lock.is_free() {
             return Err(DirectError::LockHeld);
@@ -43,7 +43,7 @@ impl<S: OutputStream> AsyncStdoutStream<S> {
     }
 
     pub fn check_write(&mut self) -> Result<usize, DirectError>
-        ensures { Gives (direct_check meaning checked (shared_view view self.old)) result (shared_view view self.new) }
+        ensures { Gives (direct_check S.meaning S.checked (shared_view S.view self.old)) result (shared_view S.view self.new) }
     {
         if !self.parts.lock.is_free() {
             return Err(DirectError::LockHeld);
@@ -52,7 +52,7 @@ impl<S: OutputStream> AsyncStdoutStream<S> {
     }
 
     pub fn flush(&mut self) -> Result<(), DirectError>
-        ensures { Gives (direct_flush meaning flushed (shared_view view self.old)) result (shared_view view self.new) }
+        ensures { Gives (direct_flush S.meaning S.flushed (shared_view S.view self.old)) result (shared_view S.view self.new) }
     {
         if !self.parts.lock.is_free() {
             return Err(DirectError::LockHeld);
@@ -62,28 +62,28 @@ impl<S: OutputStream> AsyncStdoutStream<S> {
 
     // Polls a handle's write.
     pub fn poll_write(&mut self, handle: usize, bytes: &[u8]) -> Result<Poll<usize>, HandleError>
-        ensures { Gives (poll_write meaning checked wrote handle bytes.now (shared_view view self.old)) result (shared_view view self.new) }
+        ensures { Gives (poll_write S.meaning S.checked S.wrote handle bytes.now (shared_view S.view self.old)) result (shared_view S.view self.new) }
     {
         self.parts.poll_write(handle, bytes)
     }
 
     // Polls a handle's flush.
     pub fn poll_flush(&mut self, handle: usize) -> Result<Poll<()>, HandleError>
-        ensures { Gives (poll_flush meaning checked flushed handle (shared_view view self.old)) result (shared_view view self.new) }
+        ensures { Gives (poll_flush S.meaning S.checked S.flushed handle (shared_view S.view self.old)) result (shared_view S.view self.new) }
     {
         self.parts.poll_flush(handle)
     }
 
     // Drops a handle, for good.
     pub fn drop_handle(&mut self, handle: usize) -> Result<(), HandleError>
-        ensures { Gives (drop_handle handle (shared_view view self.old)) result (shared_view view self.new) }
+        ensures { Gives (drop_handle handle (shared_view S.view self.old)) result (shared_view S.view self.new) }
     {
         self.parts.drop_handle(handle)
     }
 
     // The state of a handle, of a dropped one too.
     pub fn handle_state(&self, handle: usize) -> Result<HandleState, HandleError>
-        ensures { result ≡ state_answer handle (shared_view view self.now) }
+        ensures { result ≡ state_answer handle (shared_view S.view self.now) }
     {
         if handle < self.parts.table.len() {
             return Ok(self.parts.table.get(handle).state);

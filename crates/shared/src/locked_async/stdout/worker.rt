@@ -15,35 +15,35 @@ use writer::Writer;
 impl<W: Writer> AsyncStdoutStream<AsyncWriteStream<W>> {
     // A shared stream over a writer, never refused.
     pub fn new(limits: Limits, writer: W) -> Self
-        ensures { shared_view (worker_view view) result ≡ fresh (fresh_stream limits.budget (view writer)) limits.handles }
+        ensures { shared_view (worker_view W.view) result ≡ fresh (fresh_stream limits.budget (W.view writer)) limits.handles }
     {
         Self::over(limits, AsyncWriteStream::new(limits, writer))
     }
 
     // Stops turns, whoever holds the lock.
     pub fn cancel(&mut self)
-        ensures { shared_view (worker_view view) self.new ≡ with_stream (cancel (shared_view (worker_view view) self.old).stream) (shared_view (worker_view view) self.old) }
+        ensures { shared_view (worker_view W.view) self.new ≡ with_stream (cancel (shared_view (worker_view W.view) self.old).stream) (shared_view (worker_view W.view) self.old) }
     {
         self.parts.stream.cancel();
     }
 
     // One host turn.
     pub fn turn(&mut self) -> Turn
-        ensures { Turns writes flushes (shared_view (worker_view view) self.old) result (shared_view (worker_view view) self.new) }
+        ensures { Turns W.writes W.flushes (shared_view (worker_view W.view) self.old) result (shared_view (worker_view W.view) self.new) }
     {
         self.parts.stream.turn()
     }
 
     // The budget that is free.
     pub fn free_budget(&self) -> usize
-        ensures { result ≡ free_budget (shared_view (worker_view view) self.now) }
+        ensures { result ≡ free_budget (shared_view (worker_view W.view) self.now) }
     {
         self.parts.stream.free_budget()
     }
 
     // How many writes are unfinished.
     pub fn unfinished(&self) -> usize
-        ensures { result ≡ unfinished_count (shared_view (worker_view view) self.now) }
+        ensures { result ≡ unfinished_count (shared_view (worker_view W.view) self.now) }
     {
         self.parts.stream.unfinished()
     }

@@ -20,7 +20,7 @@ use writer::{Fault, Writer};
 
 impl<W: Writer> AsyncWriteStream<W> {
     pub fn new(limits: Limits, writer: W) -> Self
-        ensures { worker_view view result ≡ fresh limits.budget (view writer) }
+        ensures { worker_view W.view result ≡ fresh limits.budget (W.view writer) }
     {
         AsyncWriteStream {
             writer,
@@ -34,14 +34,14 @@ impl<W: Writer> AsyncWriteStream<W> {
 
     // The budget that is free.
     pub fn free_budget(&self) -> usize
-        ensures { result ≡ (worker_view view self.now).free }
+        ensures { result ≡ (worker_view W.view self.now).free }
     {
         self.write_budget
     }
 
     // How many writes are unfinished.
     pub fn unfinished(&self) -> usize
-        ensures { result ≡ length (worker_view view self.now).unfinished }
+        ensures { result ≡ length (worker_view W.view self.now).unfinished }
     {
         self.store.len()
     }
@@ -55,7 +55,7 @@ impl<W: Writer> AsyncWriteStream<W> {
 
     // Stops turns, and nothing else.
     pub fn cancel(&mut self)
-        ensures { worker_view view self.new ≡ cancel (worker_view view self.old) }
+        ensures { worker_view W.view self.new ≡ cancel (worker_view W.view self.old) }
     {
         self.cancelled = true;
     }
@@ -69,7 +69,7 @@ impl<W: Writer> AsyncWriteStream<W> {
 
     // Is no fault stored? A stored one is taken away.
     fn take_fault(&mut self) -> Result<(), Fault>
-        ensures { MatchResult result (λ _. (no_fault self.old.status ≡ None) × (self.new ≡ self.old)) (λ f. (self.old.status ≡ Faulted f) × (worker_view view self.new ≡ with_status ClosedStatus (worker_view view self.old))) }
+        ensures { MatchResult result (λ _. (no_fault self.old.status ≡ None) × (self.new ≡ self.old)) (λ f. (self.old.status ≡ Faulted f) × (worker_view W.view self.new ≡ with_status ClosedStatus (worker_view W.view self.old))) }
     {
         if let Status::Faulted(f) = self.status {
             self.status = Status::Closed;
@@ -80,8 +80,8 @@ impl<W: Writer> AsyncWriteStream<W> {
 
     // The questions before every call.
     fn check_error(&mut self) -> Result<(), StreamError>
-        ensures told { result ≡ answered (refusal (worker_view view self.old)) tt }
-        ensures left { worker_view view self.new ≡ checked (worker_view view self.old) }
+        ensures told { result ≡ answered (refusal (worker_view W.view self.old)) tt }
+        ensures left { worker_view W.view self.new ≡ checked (worker_view W.view self.old) }
         ensures same { Untouched result self.old self.new }
         ensures passed { OnOk result ((self.old.status ≡ Alive) × (self.new ≡ self.old)) }
     {

@@ -23,7 +23,7 @@ pub enum WriterCall {
 impl<W: Writer> AsyncWriteStream<W> {
     // Lends the store and the writer to one call: the oldest write's whole rest is offered as one part of the store.
     fn call_writer(&mut self) -> WriterCall
-        ensures called { Called writes flushes result (worker_view view self.old) (worker_view view self.new) }
+        ensures called { Called W.writes W.flushes result (worker_view W.view self.old) (worker_view W.view self.new) }
         ensures store { self.new.store ≡ self.old.store }
     {
         match self.store.next_job(self.flush_pending) {
@@ -41,7 +41,7 @@ impl<W: Writer> AsyncWriteStream<W> {
     // The oldest write is finished, and its whole length returns to the budget.
     fn finish(&mut self) -> Turn
         requires { 0 < length (unfinished self.old.store) }
-        ensures { Gives (finishes (worker_view view self.old)) result (worker_view view self.new) }
+        ensures { Gives (finishes (worker_view W.view self.old)) result (worker_view W.view self.new) }
     {
         let n = self.store.pop();
         self.write_budget += n;
@@ -50,7 +50,7 @@ impl<W: Writer> AsyncWriteStream<W> {
 
     // A fault ends the stream: the next call tells it.
     fn fail(&mut self, fault: Fault) -> Turn
-        ensures { Gives (fails fault (worker_view view self.old)) result (worker_view view self.new) }
+        ensures { Gives (fails fault (worker_view W.view self.old)) result (worker_view W.view self.new) }
     {
         self.status = Status::Faulted(fault);
         self.flush_pending = false;
@@ -60,7 +60,7 @@ impl<W: Writer> AsyncWriteStream<W> {
     fn after_write(&mut self, answer: WriteAnswer) -> Turn
         requires some { 0 < length (unfinished self.old.store) }
         requires within { Within answer (length (rest self.old.store)) }
-        ensures { Gives (after_write answer (length (rest self.old.store)) (worker_view view self.old)) result (worker_view view self.new) }
+        ensures { Gives (after_write answer (length (rest self.old.store)) (worker_view W.view self.old)) result (worker_view W.view self.new) }
     {
         match answer {
             WriteAnswer::NotYet => Turn::NotYet,
@@ -79,7 +79,7 @@ impl<W: Writer> AsyncWriteStream<W> {
     }
 
     fn after_flush(&mut self, answer: FlushAnswer) -> Turn
-        ensures { Gives (after_flush answer (worker_view view self.old)) result (worker_view view self.new) }
+        ensures { Gives (after_flush answer (worker_view W.view self.old)) result (worker_view W.view self.new) }
     {
         match answer {
             FlushAnswer::Done => {
@@ -93,7 +93,7 @@ impl<W: Writer> AsyncWriteStream<W> {
 
     // One host turn.
     pub fn turn(&mut self) -> Turn
-        ensures { Turned writes flushes (worker_view view self.old) result (worker_view view self.new) }
+        ensures { Turned W.writes W.flushes (worker_view W.view self.old) result (worker_view W.view self.new) }
     {
         if self.cancelled || !self.is_alive() {
             return Turn::Stopped;

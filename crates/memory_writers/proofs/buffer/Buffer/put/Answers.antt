@@ -12,5 +12,5 @@ returns c =
     let long : length xs ≡ vec_len b.bytes = search rules in
     let within : b.at + n ≤ vec_len b.bytes = search rules in
     let few : n ≤ length part = search rules in
-    let copied = copied_is b.at n _ xs _ part _ long c.deref-mut.ensures.value c.copy-from-slice.ensures.after within few in
+    let copied = copied_is b.at n _ xs _ part _ long c.deref_mut.ensures.value c.copy_from_slice.ensures.after within few in
     record { told = simp length-drop (search rules); left = ap (divided b.start (b.at + n) b.covered) copied ∙ divided_extended _ _ _ _ _ _ b.ordered (omega arith) few }

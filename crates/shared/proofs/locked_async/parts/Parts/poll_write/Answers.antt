@@ -8,4 +8,4 @@ returns-in-Granted g c =
     let O = g.S.OutputStream in
     let entered = c.in-Granted.ensures.0 in
     write_granted O.meaning O.checked c.args.number (parts_view O.view c.args.self.now) (parts_view O.view c.acquire.new.self) O.wrote c.args.bytes.now c.requested.result _ _
-    (ltb-true 0 (length c.args.bytes.now) (sym c.requested.ensures ∙ entered.wanted)) entered c.write-granted.ensures
+    (ltb-true 0 (length c.args.bytes.now) (sym c.requested.ensures ∙ entered.wanted)) entered c.write_granted.ensures

@@ -5,9 +5,9 @@ use Rattle.shared.specs.TableOf.{handles_of}
 use Rattle.shared.proofs.Queues.{carried, carries_on, drop_keeps}
 use Rattle.shared.proofs.locked_async.stdout.AsyncStdoutStream.drop_handle.Goals as goal
 
-pub invariant-of-self : goal.invariant-of-self
-invariant-of-self g c =
+pub invariant_of-self : goal.invariant_of-self
+invariant_of-self g c =
     let O = g.S.OutputStream in
     let a = c.args.self.now in
     let n = length (handles_of a.parts.table) in
-    carries_on n (parts_view O.view c.drop-handle.new.self) _ c.drop-handle.ensures.left (drop_keeps n c.args.handle (shared_view O.view a) (carried O.view a))
+    carries_on n (parts_view O.view c.drop_handle.new.self) _ c.drop_handle.ensures.left (drop_keeps n c.args.handle (shared_view O.view a) (carried O.view a))

@@ -5,12 +5,12 @@ use Rattle.shared.specs.TableOf.{handles_of}
 use Rattle.shared.proofs.Queues.{carried, room, carries_on, write_keeps}
 use Rattle.shared.proofs.locked_async.stdout.AsyncStdoutStream.poll_write.Goals as goal
 
-pub poll-write-requires : goal.poll-write-requires
-poll-write-requires g c = room g.S.OutputStream.view c.args.self.now c.args.handle
+pub poll_write-requires : goal.poll_write-requires
+poll_write-requires g c = room g.S.OutputStream.view c.args.self.now c.args.handle
 
-pub invariant-of-self : goal.invariant-of-self
-invariant-of-self g c =
+pub invariant_of-self : goal.invariant_of-self
+invariant_of-self g c =
     let O = g.S.OutputStream in
     let a = c.args.self.now in
     let n = length (handles_of a.parts.table) in
-    carries_on n (parts_view O.view c.poll-write.new.self) _ c.poll-write.ensures.left (write_keeps n c.args.handle O.meaning O.checked O.wrote c.args.bytes.now (shared_view O.view a) (carried O.view a))
+    carries_on n (parts_view O.view c.poll_write.new.self) _ c.poll_write.ensures.left (write_keeps n c.args.handle O.meaning O.checked O.wrote c.args.bytes.now (shared_view O.view a) (carried O.view a))

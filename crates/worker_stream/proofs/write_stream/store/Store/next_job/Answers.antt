@@ -2,18 +2,18 @@ use Rattle.std.proofs.Common.{refl, arith, rules}
 use Rattle.worker_stream.proofs.Oldest.{progress_within, first_within, next_is_rest}
 use Rattle.worker_stream.proofs.write_stream.store.Store.next_job.Goals as goal
 
-pub slice-bounds-result-count : goal.slice-bounds-result-count
-slice-bounds-result-count c = omega (arith, progress_within c.args.self.now c.if-self-gt0.true)
+pub slice_bounds-result-count : goal.slice_bounds-result-count
+slice_bounds-result-count c = omega (arith, progress_within c.args.self.now c.if-self-gt0.true)
 
-pub slice-bounds-result-start : goal.slice-bounds-result-start
-slice-bounds-result-start c = let h = progress_within c.args.self.now c.if-self-gt0.true in search rules
+pub slice_bounds-result-start : goal.slice_bounds-result-start
+slice_bounds-result-start c = let h = progress_within c.args.self.now c.if-self-gt0.true in search rules
 
-pub slice-bounds-result-end : goal.slice-bounds-result-end
-slice-bounds-result-end c =
+pub slice_bounds-result-end : goal.slice_bounds-result-end
+slice_bounds-result-end c =
     let s = c.args.self.now in
     let h = first_within s c.if-self-gt0.true in
     let w = s.within in
     search rules
 
 pub returns-then-self-gt0 : goal.returns-then-self-gt0
-returns-then-self-gt0 c = next_is_rest c.args.self.now c.if-self-gt0.true c.args.flush-pending _ refl
+returns-then-self-gt0 c = next_is_rest c.args.self.now c.if-self-gt0.true c.args.flush_pending _ refl
