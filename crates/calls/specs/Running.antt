@@ -6,8 +6,8 @@ use Rattle.std.specs.Prelude.{◌≡◌, ℕ, ◌<◌, List, Ok}
 use Rattle.writer.specs.declared.answer.WriteAnswer.{WriteAnswer}
 use Rattle.writer.specs.declared.answer.FlushAnswer.{FlushAnswer}
 use Rattle.worker_stream.specs.WorkerView.{WorkerView}
-use Rattle.promises.specs.declared.handle.HandleState.TheVariants.{Closed}
-use Rattle.promises.specs.declared.handle.Poll.TheVariants.{Ready as Answered}
+use Rattle.handles.specs.declared.handle.HandleState.TheVariants.{Closed}
+use Rattle.handles.specs.declared.handle.Poll.TheVariants.{Ready as Answered}
 use Rattle.promises.specs.SharedView.{SharedView}
 use Rattle.promises.specs.Events.{handle_flush}
 use Rattle.promises.specs.Steps.{free_budget, handle_state}

@@ -1,6 +1,6 @@
 use Rattle.std.proofs.Common.{◌≡◌, ◌-◌, ◌≤◌, length, take, Ok, sym, ap, ◌∙◌, subst, arith, length-take}
 use Rattle.stream.specs.Meaning.{permit}
-use Rattle.promises.specs.declared.handle.Poll.TheVariants.{Ready}
+use Rattle.handles.specs.declared.handle.Poll.TheVariants.{Ready}
 use Rattle.shared.specs.Operations.{WriteOperation}
 use Rattle.shared.proofs.Operating.{permitted, first_bytes, waits_unpermitted, writes_permitted, never_refused}
 use Rattle.shared.proofs.locked_async.parts.operations.write_permitted.Goals as goal

@@ -10,4 +10,5 @@ invariant_of-self g c =
     let O = g.S.OutputStream in
     let a = c.args.self.now in
     let n = length (handles_of a.parts.table) in
-    carries_on n (parts_view O.view c.drop_handle.new.self) _ c.drop_handle.ensures.left (drop_keeps n c.args.handle (shared_view O.view a) (carried O.view a))
+    let kept = carries_on n (parts_view O.view c.drop_handle.new.self) _ c.drop_handle.ensures.left (drop_keeps n c.args.handle (shared_view O.view a) (carried O.view a)) in
+    record { each = kept.0; whole = kept.1 }

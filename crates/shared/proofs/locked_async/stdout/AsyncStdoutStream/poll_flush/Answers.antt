@@ -13,4 +13,5 @@ invariant_of-self g c =
     let O = g.S.OutputStream in
     let a = c.args.self.now in
     let n = length (handles_of a.parts.table) in
-    carries_on n (parts_view O.view c.poll_flush.new.self) _ c.poll_flush.ensures.left (flush_keeps n c.args.handle O.meaning O.checked O.flushed (shared_view O.view a) (carried O.view a))
+    let kept = carries_on n (parts_view O.view c.poll_flush.new.self) _ c.poll_flush.ensures.left (flush_keeps n c.args.handle O.meaning O.checked O.flushed (shared_view O.view a) (carried O.view a)) in
+    record { each = kept.0; whole = kept.1 }
