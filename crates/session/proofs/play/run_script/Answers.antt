@@ -15,8 +15,8 @@ returns-in-Ok c =
     let l = c.in-Ok.limits in
     let answers =
     IfOk-weaker c.play.result (λ v. Played l.budget l.handles (lines_read unread more) (vec_items v)) (λ v. ScriptAnswers ls (vec_items v))
-    (λ v p. script_played c.in-Some.first.now more ls (vec_items v) c.in-Some-parse-limits.budget c.in-Some-parse-limits.handles c.in-Some.ensures.cases.value (sym c.in-Some-parse-limits.ensures.value) made.0
-    (subst (λ h. Played c.in-Some-parse-limits.budget h (lines_read unread more) (vec_items v)) made.2 (subst (λ b. Played b l.handles (lines_read unread more) (vec_items v)) made.1 p)))
+    (λ v p. script_played c.in-Some.first.now more ls (vec_items v) c.in-Some-parse_limits.budget c.in-Some-parse_limits.handles c.in-Some.ensures.cases.value (sym c.in-Some-parse_limits.ensures.value) made.0
+    (subst (λ h. Played c.in-Some-parse_limits.budget h (lines_read unread more) (vec_items v)) made.2 (subst (λ b. Played b l.handles (lines_read unread more) (vec_items v)) made.1 p)))
     c.play.ensures in
     record { answers = answers; each = IfOk-weaker c.play.result (λ v. ScriptAnswers ls (vec_items v)) (λ v. OneEach ls (vec_items v)) (λ v h. one_each ls (vec_items v) h) answers }
 
