@@ -4,7 +4,7 @@ use std::fs;
 
 fn main(rt: HostRuntime) -> anyhow::Result<()> {
     let path = "writes-256.script";
-    let text = fs::read(rt, path)?;
+    let text = fs::read(&rt, path)?;
     println!(rt; "{path}")?;
     let answers = run_script(rt.alloc(), text.as_slice())?;
     for answer in answers.iter() {

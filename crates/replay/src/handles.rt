@@ -30,9 +30,9 @@ fn print_counts(rt: &impl Print, shared: &Shared) -> anyhow::Result<()> {
 fn print_word(rt: &impl Print, word: Turn, first: bool) -> anyhow::Result<()> {
     let answer = print(calls::Answer::Turn(word));
     if first {
-        print!(rt, "{answer}")?;
+        print!(rt; "{answer}")?;
     } else {
-        print!(rt, ", {answer}")?;
+        print!(rt; ", {answer}")?;
     }
     Ok(())
 }
@@ -60,7 +60,7 @@ fn print_call(rt: &impl Print, shared: &mut Shared, line: &[u8], call: Call) -> 
         return print_turns(rt, shared);
     }
     let answer = print(perform(shared, call));
-    print!(rt, "{answer}")?;
+    print!(rt; "{answer}")?;
     Ok(())
 }
 
@@ -84,7 +84,7 @@ pub fn play(rt: &HostRuntime, limits: Limits, lines: &[&[u8]]) -> anyhow::Result
     let mut next = 0;
     for (line, slot) in lines.iter().zip(slots.iter()) {
         match *slot {
-            Slot::Said(answer) => print!(rt, "{answer}")?,
+            Slot::Said(answer) => print!(rt; "{answer}")?,
             Slot::Called => {
                 if let Some(call) = calls.get(next) {
                     print_call(rt, &mut shared, *line, *call)?;

@@ -52,7 +52,7 @@ fn main(rt: HostRuntime) -> anyhow::Result<()> {
     let mut lines = Vec::new(rt.alloc());
     let mut rest = text.as_slice();
     while let Some((line, more)) = next_line(rest) {
-        if line == b"=" {
+        if line == b"=".as_slice() {
             play(&rt, lines.as_slice())?;
             lines.clear();
         } else {

@@ -3,10 +3,10 @@
 // The bytes in hexadecimal.
 
 pub fn print_bytes(rt: &impl Print, bytes: &[u8]) -> anyhow::Result<()> {
-    print!(rt, "= ")?;
+    print!(rt; "= ")?;
     for byte in bytes {
-        print!(rt, "{byte:02x}")?;
+        print!(rt; "{byte:02x}")?;
     }
-    println!(rt)?;
+    println!(rt;)?;
     Ok(())
 }

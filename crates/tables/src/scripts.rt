@@ -67,8 +67,8 @@ fn lines_end_at_newlines(rt: HostRuntime) -> Result<(), Fail> {
     let Some((first, rest)) = next_line(text) else {
         return Err(Fail::new("no line"));
     };
-    assert!(rt; first == b"a\r");
-    assert!(rt; rest == b"\nb\n");
+    assert!(rt; first == b"a\r".as_slice());
+    assert!(rt; rest == b"\nb\n".as_slice());
     assert!(rt; next_line(b"").is_none());
     Ok(())
 }
@@ -94,6 +94,6 @@ fn canonical_text_is_read_back(rt: HostRuntime) -> Result<(), Fail> {
         return Err(Fail::new("misfit"));
     };
     let text = canonical_command(rt.alloc(), &command)?;
-    assert!(rt; text.as_slice() == b"W 7 a");
+    assert!(rt; text.as_slice() == b"W 7 a".as_slice());
     Ok(())
 }

@@ -12,7 +12,7 @@ fn memory_of_one_byte(rt: HostRuntime) -> Result<(), Fail> {
     assert_eq!(rt; writer.covered(), 0);
     assert_eq!(rt; writer.flush(), FlushAnswer::Done);
     assert_eq!(rt; writer.covered(), 1);
-    assert_eq!(rt; writer.contents(), b"a");
+    assert_eq!(rt; writer.contents(), b"a".as_slice());
     Ok(())
 }
 
@@ -23,7 +23,7 @@ fn image_that_fills_up(rt: HostRuntime) -> Result<(), Fail> {
     assert_eq!(rt; writer.write(b"bc"), WriteAnswer::Took(1));
     assert_eq!(rt; writer.write(b"c"), WriteAnswer::Failed(Fault::Device(28)));
     assert_eq!(rt; writer.write(b""), WriteAnswer::Took(0));
-    assert_eq!(rt; writer.into_image().as_slice(), b"wxab");
+    assert_eq!(rt; writer.into_image().as_slice(), b"wxab".as_slice());
     Ok(())
 }
 
@@ -32,7 +32,7 @@ fn image_from_past_its_end(rt: HostRuntime) -> Result<(), Fail> {
     let mut writer = ImageWriter::new(b"wx".to_vec(rt.alloc())?, 9);
     assert_eq!(rt; writer.write(b"a"), WriteAnswer::Failed(Fault::Device(28)));
     assert_eq!(rt; writer.flush(), FlushAnswer::Done);
-    assert_eq!(rt; writer.into_image().as_slice(), b"wx");
+    assert_eq!(rt; writer.into_image().as_slice(), b"wx".as_slice());
     Ok(())
 }
 
@@ -48,7 +48,7 @@ fn entries_in_order(rt: HostRuntime) -> Result<(), Fail> {
     assert_eq!(rt; writer.write(b"bc"), WriteAnswer::NotYet);
     assert_eq!(rt; writer.flush(), FlushAnswer::Failed(Fault::Device(7)));
     assert_eq!(rt; writer.write(b"bc"), WriteAnswer::Took(2));
-    assert_eq!(rt; writer.inner().contents(), b"abc");
+    assert_eq!(rt; writer.inner().contents(), b"abc".as_slice());
     Ok(())
 }
 
