@@ -1,5 +1,5 @@
 -- The text of an answer is one line. Assumes nothing.
-use Rattle.std.proofs.Common.{◌≡◌, ℕ, zero, suc, ◌+◌, ◌/◌, ◌%◌, Bool, true, false, not, ◌&&◌, eqb, ltb, List, [], ◌∷◌, ◌++◌, codes, decimal, sym, refl, ap, ◌∙◌, arith, ne_eqb}
+use Rattle.std.proofs.Common.{◌≡◌, ℕ, zero, suc, ◌+◌, ◌/◌, ◌%◌, Bool, true, false, not, ◌&&◌, eqb, ltb, List, [], ◌∷◌, ◌++◌, codes, decimal, refl, arith, ne_eqb}
 use borrow.Author.Tests.{eqb-false}
 use Rattle.std.proofs.ByRecursion.{All-append}
 use Rattle.std.proofs.lemmas.Bool.{and_parts, not-true, cond_both}
@@ -8,7 +8,7 @@ use Rattle.writer.specs.declared.answer.Fault.TheVariants.{WriteZero, Device}
 use Rattle.answers.specs.declared.answer.Answer.{Answer}
 use Rattle.answers.specs.declared.answer.Answer.TheVariants.{Accepted, Count, Done, Wait, Finished, Moved, Flushed, Idle, Stopped, Failed, Refused, Fault, Misfit}
 use Rattle.answers.specs.Answers.{answer_text, OneLine, AnswersAreLines}
-use Rattle.script.specs.Lines.{lines, onto}
+use Rattle.script.specs.Lines.{lines}
 
 abbrev no_newline : List ℕ → Bool
 no_newline [] = true

@@ -1,4 +1,6 @@
 // The words of a shared stream: what a handle is, what a poll answers, and why a handle call or a direct call is refused.
+#![tactic(auto)]
+
 pub mod direct;
 pub mod handle;
 

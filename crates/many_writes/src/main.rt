@@ -1,4 +1,6 @@
 // Plays a script of 256 writes that wait for their turns, and prints its answers under its name.
+#![tactic(auto)]
+
 use session::run_script;
 use std::fs;
 

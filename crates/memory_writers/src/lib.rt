@@ -1,4 +1,6 @@
 // The writers over an owned buffer: a memory writer over all of it, and an image writer from a start position on.
+#![tactic(auto)]
+
 mod buffer;
 pub mod image;
 pub mod memory;

@@ -1,4 +1,6 @@
 // The life of a memory pipe of 3 bytes, and of one of 0: a line for each call. Relies on `memory_pipe`.
+#![tactic(auto)]
+
 ghost use Rattle.std.specs.Prelude.{◌≡◌, MatchResult};
 ghost use Rattle.stream.specs.Refusals.{number};
 

@@ -1,4 +1,6 @@
 // A writer over any other, whose first answers follow a plan.
+#![tactic(auto)]
+
 pub mod plan;
 pub mod planned;
 

@@ -1,6 +1,6 @@
 -- What is printed of an answer of the shared stream. Assumes nothing.
 --   printed   the printed answer
-use Rattle.std.specs.Prelude.{ℕ, Ok, Err, Result}
+use Rattle.std.specs.Prelude.{ℕ, Ok, Err}
 use Rattle.stream.specs.declared.error.StreamError.{StreamError}
 use Rattle.stream.specs.declared.error.StreamError.TheVariants.{LastOperationFailed, Closed, Trap}
 use Rattle.worker_stream.specs.declared.write_stream.job.Turn.{Turn}
@@ -10,7 +10,6 @@ use Rattle.handles.specs.declared.direct.DirectError.{DirectError}
 use Rattle.handles.specs.declared.direct.DirectError.TheVariants.{LockHeld, Stream as DirectStream}
 use Rattle.handles.specs.declared.handle.HandleError.{HandleError}
 use Rattle.handles.specs.declared.handle.HandleError.TheVariants.{NoSuchHandle, Stream as HandleStream}
-use Rattle.handles.specs.declared.handle.Poll.{Poll}
 use Rattle.handles.specs.declared.handle.Poll.TheVariants.{Ready, Pending}
 use Rattle.handles.specs.Refusals.{direct_number, handle_number}
 use Rattle.calls.specs.declared.call.Answer.{Answer as Reply}

@@ -1,4 +1,6 @@
 // What is printed of the replies of the shared stream. Relies on `calls` for the replies and on `answers` for what is printed.
+#![tactic(auto)]
+
 ghost use Rattle.std.specs.Prelude.{◌≡◌};
 ghost use Rattle.printing.specs.Printing.{refused_by, direct_refused, handle_refused, turn_printed, printed};
 

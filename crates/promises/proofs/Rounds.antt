@@ -11,7 +11,7 @@ use Rattle.handles.specs.declared.handle.HandleState.{HandleState}
 use Rattle.handles.specs.declared.handle.HandleState.TheVariants.{Ready, Locking, Locked, Closed}
 use Rattle.handles.specs.declared.handle.Poll.TheVariants.{Pending}
 use Rattle.promises.specs.SharedView.{HandleView, dropped as dropped_view, holds, without}
-use Rattle.promises.specs.Events.{Event, write, flush, cancel, turn, handle_flush, handle_drop}
+use Rattle.promises.specs.Events.{Event, cancel, turn, handle_flush, handle_drop}
 use Rattle.promises.specs.History.{History, start, ◌▷◌, ◌▷▷◌, Call, writes, flushes, Reply, not_yet, answered, polled, dropped, nothing, asked_in, Unanswered, Repeats, Patient, NoCancel, Polled, Rounds, none, other, round, Between, Waiting}
 use Rattle.promises.specs.Promises.{InTime}
 use Rattle.promises.proofs.Streams.{impossible, WriterBytes, Stream, TurnWay}

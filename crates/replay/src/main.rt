@@ -3,6 +3,8 @@
 // A line `=` ends a script, and its answers end with a line of the bytes that arrived. A script whose first line is `pipe` and a
 // capacity of at most 4,096 is played over a memory pipe. One command more than `streamrun` has: `T` makes host turns up to the
 // first that answers wait, failed, idle or stopped, and prints their words, but none of `finished 0`.
+#![tactic(auto)]
+
 mod handles;
 mod pipes;
 mod printing;

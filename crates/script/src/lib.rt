@@ -1,4 +1,6 @@
 // The text of scripts: its lines, and a line read as a command.
+#![tactic(auto)]
+
 pub mod command;
 pub mod lines;
 pub mod number;

@@ -1,5 +1,5 @@
 -- What a reading has read, line by line. Assumes nothing.
-use Rattle.std.proofs.Common.{◌≡◌, ℕ, suc, true, false, ltb, List, [], ◌∷◌, ◌++◌, map, length, replicate, sym, refl, ap, ◌∙◌, arith}
+use Rattle.std.proofs.Common.{◌≡◌, ℕ, true, false, ltb, List, [], ◌∷◌, ◌++◌, map, length, replicate, sym, refl, ap, ◌∙◌, arith}
 use Rattle.planned_writer.specs.declared.plan.PlanEntry.{PlanEntry}
 use Rattle.answers.specs.declared.answer.Answer.TheVariants.{Accepted, Refused, Misfit}
 use Rattle.memory_writers.specs.declared.memory.MemoryWriter.{MemoryWriter}
@@ -8,7 +8,7 @@ use Rattle.memory_writers.specs.Area.{fresh_area}
 use Rattle.memory_writers.specs.Stores.{memory_view}
 use Rattle.planned_writer.specs.Planned.{planned_view, view_below, unplanned, appended, most_entries}
 use Rattle.calls.specs.declared.call.Call.{Call}
-use Rattle.calls.specs.Calls.{CallView, call_view}
+use Rattle.calls.specs.Calls.{call_view}
 use Rattle.script_reading.specs.declared.slot.Slot.{Slot}
 use Rattle.script_reading.specs.declared.slot.Slot.TheVariants.{Said, Called}
 use Rattle.script_reading.specs.Reading.{WriterView, Read, unread, says, makes, plans, plans_if}

@@ -3,7 +3,7 @@
 --   Read         the writer so far, what each line prints (said at once, or what its call answers), and the calls
 --   read_line    one line more: a misfit is said, a plan entry is planned while no call has come, any other command is a call
 --   lines_read   some lines more
-use Rattle.std.specs.Prelude.{ℕ, Bool, true, false, cond, List, [], ◌∷◌, ◌++◌, replicate, Some, None, Option, nat_lt}
+use Rattle.std.specs.Prelude.{ℕ, Bool, true, false, List, [], ◌∷◌, ◌++◌, replicate, Some, None, Option, nat_lt}
 use Rattle.planned_writer.specs.declared.plan.PlanEntry.{PlanEntry}
 use Rattle.memory_writers.specs.Area.{Area, fresh_area}
 use Rattle.planned_writer.specs.Planned.{PlannedView, appended, most_entries, unplanned}

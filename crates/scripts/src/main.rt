@@ -1,4 +1,6 @@
 // Plays each recorded script and prints its answers under its name.
+#![tactic(auto)]
+
 use session::run_script;
 use std::fs;
 

@@ -20,7 +20,7 @@ use Rattle.script.specs.Parsing.{parsed, limits}
 use Rattle.script_reading.specs.declared.slot.Slot.{Slot}
 use Rattle.script_reading.specs.declared.slot.Slot.TheVariants.{Said, Called}
 use Rattle.printing.specs.Printing.{printed}
-use Rattle.script_reading.specs.Reading.{WriterView, Read, unread, says, plans, plans_if, reads, read_line, lines_read}
+use Rattle.script_reading.specs.Reading.{WriterView, Read, unread, plans, plans_if, reads, read_line, lines_read}
 use Rattle.session.specs.Merging.{merged}
 use Rattle.session.specs.Scripts.{Played, PlayedIf, AfterFirst, ScriptAnswers, NotRefused, OneEach}
 

@@ -2,7 +2,7 @@
 --   Operated         this answer, or not yet, and this stream left
 --   WriteOperation   a write of as many bytes as are permitted
 --   StageOperation   a stage of a flush
-use Rattle.std.specs.Prelude.{◌≡◌, ℕ, zero, suc, min, true, false, List, length, take, Ok, Err, Result}
+use Rattle.std.specs.Prelude.{◌≡◌, ℕ, zero, suc, min, List, length, take, Ok, Err, Result}
 use Rattle.stream.specs.Meaning.{Meaning, faulted, closed, open_with}
 use Rattle.stream.specs.declared.error.StreamError.{StreamError}
 use Rattle.stream.specs.declared.error.StreamError.TheVariants.{LastOperationFailed, Closed}

@@ -1,7 +1,7 @@
 -- Which limits are refused, and by which number. Assumes nothing.
 --   refusal   the refusal of a budget and a count of handles, if there is one
 --   number    the number of a refusal
-use Rattle.std.specs.Prelude.{ℕ, Bool, true, false, ◌&&◌, List, [], ◌∷◌, Option, nat_le}
+use Rattle.std.specs.Prelude.{ℕ, ◌&&◌, [], ◌∷◌, Option, nat_le}
 use Rattle.stream.specs.declared.limits.refusal.LimitsError.{LimitsError}
 use Rattle.stream.specs.declared.limits.refusal.LimitsError.TheVariants.{BudgetTooLarge, HandlesOutOfRange}
 use Rattle.stream.specs.Questions.{asks, first_no}

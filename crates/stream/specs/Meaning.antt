@@ -4,7 +4,7 @@
 --   ready          whether check_write would answer anything but 0
 --   flush_answer   what flush answers: it never traps
 --   Untouched      a refusal leaves the whole value as it was, but for a fault, which is taken away
-use Rattle.std.specs.Prelude.{◌≡◌, ℕ, Bool, true, false, Ok, Err, Result, nat_lt}
+use Rattle.std.specs.Prelude.{◌≡◌, ℕ, Bool, true, Ok, Err, Result, nat_lt}
 use Rattle.writer.specs.declared.answer.Fault.{Fault}
 use Rattle.stream.specs.declared.error.StreamError.{StreamError}
 use Rattle.stream.specs.declared.error.StreamError.TheVariants.{LastOperationFailed, Closed, Trap}

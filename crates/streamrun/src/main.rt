@@ -1,4 +1,6 @@
 // Reads a script from standard input, plays it, and prints one line for each answer.
+#![tactic(auto)]
+
 use session::run_script;
 use std::io::Read;
 

@@ -1,3 +1,5 @@
+#![tactic(auto)]
+
 // Tables of examples: writers, streams, shared streams and scripts. Each test is proved to be safe, and then run.
 #[cfg(test)]
 mod scripts;

@@ -1,4 +1,6 @@
 // 100,000 writes of sixteen bytes over a memory that holds them all, with a host turn after each. `bench/run` times it.
+#![tactic(auto)]
+
 use memory_writers::MemoryWriter;
 use stream::{Limits, OutputStream};
 use worker_stream::{AsyncWriteStream, Turn};

@@ -1,5 +1,5 @@
 -- The one way that each call of a shared stream goes over a planned memory writer. Assumes nothing.
-use Rattle.std.proofs.Common.{◌≡◌, ℕ, List, [], ◌∷◌, refl, subst}
+use Rattle.std.proofs.Common.{◌≡◌, List, [], ◌∷◌, refl, subst}
 use Rattle.promises.specs.Events.{Event, write, check, flush, cancel, turn, handle_write, handle_flush, handle_drop}
 use Rattle.promises.specs.SharedView.{SharedView, with_stream}
 use Rattle.promises.specs.Polls.{poll_write, poll_flush, drop_handle}

@@ -1,5 +1,5 @@
 -- The one turn that a planned memory writer allows. Assumes nothing.
-use Rattle.std.proofs.Common.{◌≡◌, ℕ, zero, suc, ◌+◌, ◌≤◌, Bool, true, false, cond, ltb, leb, List, [], ◌∷◌, ◌++◌, length, take, replicate, Ok, refl, subst, arith, length-append, lt-ltb, le-leb}
+use Rattle.std.proofs.Common.{◌≡◌, ℕ, zero, suc, ◌+◌, ◌≤◌, true, false, ltb, leb, List, [], ◌∷◌, ◌++◌, length, take, replicate, Ok, refl, subst, arith, length-append, lt-ltb, le-leb}
 use Rattle.planned_writer.specs.declared.plan.PlanEntry.{PlanEntry}
 use Rattle.planned_writer.specs.declared.plan.PlanEntry.TheVariants.{AtMost, NotYet, Fail}
 use Rattle.writer.specs.declared.answer.Fault.TheVariants.{Device}
@@ -10,7 +10,6 @@ use Rattle.writer.specs.declared.answer.FlushAnswer.TheVariants.{Done, NotYet as
 use Rattle.memory_writers.specs.Area.{Area, fitting, extended, all_covered}
 use Rattle.memory_writers.specs.Stores.{MemoryWrites, AreaFlushes}
 use Rattle.planned_writer.specs.Planned.{PlannedView, PlannedWrites, PlannedFlushes}
-use Rattle.worker_stream.specs.declared.write_stream.job.Turn.{Turn}
 use Rattle.worker_stream.specs.declared.write_stream.job.Turn.TheVariants.{Stopped, Idle}
 use Rattle.worker_stream.specs.Work.{Work, stop, finish_empty, offer, flush_writer, nothing}
 use Rattle.worker_stream.specs.declared.write_stream.worker.Status.TheVariants.{Alive}

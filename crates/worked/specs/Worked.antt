@@ -1,6 +1,6 @@
 -- Worked runs, as one list. Assumes nothing.
 --   Worked   each run by its name: the calls from a stream just made, with their answers
-use Rattle.std.specs.Prelude.{◌≡◌, ℕ, Bool, true, false, List, [], ◌∷◌, ◌++◌, replicate, Some, None, Ok, Err}
+use Rattle.std.specs.Prelude.{◌≡◌, ℕ, false, List, [], ◌∷◌, ◌++◌, replicate, Some, None, Ok, Err}
 use Rattle.writer.specs.declared.answer.Fault.TheVariants.{WriteZero, Device}
 use Rattle.planned_writer.specs.declared.plan.PlanEntry.TheVariants.{AtMost, Fail}
 use Rattle.stream.specs.declared.error.StreamError.TheVariants.{LastOperationFailed, Closed, Trap}
@@ -14,7 +14,7 @@ use Rattle.handles.specs.declared.direct.DirectError.TheVariants.{LockHeld}
 use Rattle.handles.specs.declared.handle.Poll.TheVariants.{Ready, Pending}
 use Rattle.promises.specs.Events.{check as checked, turn as turned, handle_write}
 use Rattle.worked.specs.Happens.{Happens, shared}
-use Rattle.worked.specs.Shows.{Did, write, check_write, flush, cancel, turn, free, ready, Shows, memory, stream}
+use Rattle.worked.specs.Shows.{write, check_write, flush, cancel, turn, free, ready, Shows, memory, stream}
 
 abbrev pub two : List ℕ
 two = 97 ∷ 98 ∷ []

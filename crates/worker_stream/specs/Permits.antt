@@ -1,5 +1,5 @@
 -- A permit of the worker stream holds over host turns. Assumes nothing.
-use Rattle.std.specs.Prelude.{◌≡◌, ℕ, zero, suc, ◌+◌, ◌-◌, ◌<◌, ◌≤◌, Bool, true, false, cond, not, ◌⊎◌, List, [], ◌∷◌, length, Some, None, Ok, Err, Option, ◌==◌, nat_lt, refl}
+use Rattle.std.specs.Prelude.{◌≡◌, ℕ, zero, suc, ◌<◌, ◌≤◌, Bool, true, false, cond, ◌⊎◌, List, length, Ok, Err, ◌==◌, nat_lt, refl}
 use Rattle.std.proofs.Common.{sym, ◌∙◌, arith, length-drop, lt-ltb, le-leb, ltb-true}
 use Rattle.std.proofs.Math.Path.{ap, subst}
 use Rattle.std.proofs.Math.Logic.{inl, inr}
@@ -13,13 +13,13 @@ use Rattle.stream.specs.declared.error.StreamError.TheVariants.{LastOperationFai
 use Rattle.worker_stream.specs.declared.write_stream.job.Turn.{Turn}
 use Rattle.worker_stream.specs.declared.write_stream.worker.Status.{Status}
 use Rattle.worker_stream.specs.declared.write_stream.worker.Status.TheVariants.{Alive, Faulted, Closed}
-use Rattle.stream.specs.Meaning.{Meaning, open_with, permit}
+use Rattle.stream.specs.Meaning.{open_with, permit}
 use Rattle.stream.specs.HostTurns.{HostTurns, none, more}
 use Rattle.stream.specs.StreamRules.{FaultOfTurn, Honoured, PermitRule}
 use Rattle.worker_stream.specs.WorkerView.{WorkerView, with_writer}
-use Rattle.worker_stream.specs.WorkerCalls.{is_alive, meaning, meaning_of, permitted, checked, accepts}
+use Rattle.worker_stream.specs.WorkerCalls.{is_alive, meaning, meaning_of, checked, accepts}
 use Rattle.worker_stream.specs.Work.{Work, stop, finish_empty, offer, flush_writer, nothing}
-use Rattle.worker_stream.specs.WorkerTurn.{finishes, moves, took, after_write, after_flush, Gives, Does, Turned, TurnedOnce}
+use Rattle.worker_stream.specs.WorkerTurn.{finishes, moves, took, after_write, after_flush, Does, Turned, TurnedOnce}
 
 module _ {V : Type 0} where
   -- a write of at most n bytes is accepted

@@ -5,7 +5,7 @@
 --   after_flush  the outcome by the writer's answer to a flush
 --   Turned       a turn, by its word and the views before and after: one outcome, but for the writer's answer
 --   TurnedOnce   a turn, whatever its word
-use Rattle.std.specs.Prelude.{◌≡◌, ℕ, zero, suc, ◌+◌, Bool, true, false, cond, List, [], ◌∷◌, length, drop, ◌==◌}
+use Rattle.std.specs.Prelude.{◌≡◌, ℕ, zero, suc, ◌+◌, false, cond, List, length, drop, ◌==◌}
 use Rattle.writer.specs.declared.answer.Fault.{Fault}
 use Rattle.writer.specs.declared.answer.Fault.TheVariants.{WriteZero}
 use Rattle.writer.specs.declared.answer.WriteAnswer.{WriteAnswer}

@@ -2,7 +2,7 @@
 --   WorkerView   the view
 --   fresh        a stream just made
 --   with-..      the same view with one part changed
-use Rattle.std.specs.Prelude.{ℕ, Bool, true, false, List, [], ◌∷◌}
+use Rattle.std.specs.Prelude.{ℕ, Bool, false, List, []}
 use Rattle.worker_stream.specs.declared.write_stream.worker.Status.{Status}
 use Rattle.worker_stream.specs.declared.write_stream.worker.Status.TheVariants.{Alive}
 

@@ -1,4 +1,6 @@
 // A writer, by the bytes that it took and how many of them its last successful flush covered.
+#![tactic(auto)]
+
 ghost use Rattle.std.specs.Prelude.{ℕ, List};
 ghost use Rattle.writer.specs.Meaning.{WriteMeans, FlushMeans};
 ghost use Rattle.writer.specs.declared.answer.FlushAnswer.{FlushAnswer};

@@ -90,15 +90,15 @@ impl OutputStream for MemoryOutputPipe {
     // No host turn ever touches a pipe.
     ghost turned = { λ _ _. ⊥ };
 
-    ghost readiness = { first_of (Prim.search rules, Prim.grind (arith, Self.row.coded.inj)) };
+    ghost readiness = { Prim.search rules };
 
     ghost permits = { permit_holds };
 
-    ghost flushes = { first_of (Prim.search rules, Prim.grind (arith, Self.row.coded.inj)) };
+    ghost flushes = { Prim.search rules };
 
-    ghost closing = { first_of (Prim.search rules, Prim.grind (arith, Self.row.coded.inj)) };
+    ghost closing = { Prim.search rules };
 
-    ghost keeping = { first_of (Prim.search rules, Prim.grind (arith, Self.row.coded.inj)) };
+    ghost keeping = { Prim.search rules };
 
     fn check_write(&mut self) -> Result<usize, StreamError> {
         self.check_room()

@@ -53,9 +53,9 @@ impl Writer for MemoryWriter {
 
     ghost flushes = { AreaFlushes };
 
-    ghost wrote = { first_of (Prim.search rules, Prim.grind (arith, Self.row.coded.inj)) };
+    ghost wrote = { Prim.search rules };
 
-    ghost flushed = { first_of (Prim.search rules, Prim.grind (arith, Self.row.coded.inj)) };
+    ghost flushed = { Prim.search rules };
 
     fn write(&mut self, part: &[u8]) -> WriteAnswer {
         WriteAnswer::Took(self.buffer.put(part))

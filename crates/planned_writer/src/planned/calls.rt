@@ -104,7 +104,7 @@ impl<W: Writer> Writer for PlannedWriter<W> {
 
     ghost wrote = { λ a b part r w. planned_wrote W.Writer.wrote a.plan a b part r w };
 
-    ghost flushed = { first_of (Prim.search rules, Prim.grind (arith, Self.row.coded.inj)) };
+    ghost flushed = { Prim.search rules };
 
     fn write(&mut self, part: &[u8]) -> WriteAnswer {
         match self.spend() {

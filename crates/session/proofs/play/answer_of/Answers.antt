@@ -1,4 +1,4 @@
-use Rattle.std.proofs.Common.{◌≡◌, ◌+◌, ◌∷◌, get_or, drop, sym, ap, ◌∙◌}
+use Rattle.std.proofs.Common.{◌+◌, ◌∷◌, drop, sym, ap, ◌∙◌}
 use Rattle.script_reading.specs.Reading.{}
 use Rattle.session.specs.Merging.{merged}
 use Rattle.session.proofs.Playing.{called_reply, called_none}

@@ -125,15 +125,15 @@ impl<W: Writer> OutputStream for AsyncWriteStream<W> {
 
     ghost turned = { TurnedOnce W.Writer.writes W.Writer.flushes };
 
-    ghost readiness = { first_of (Prim.search rules, Prim.grind (arith, Self.row.coded.inj)) };
+    ghost readiness = { Prim.search rules };
 
     ghost permits = { permit_holds W.Writer.writes W.Writer.flushes };
 
-    ghost flushes = { first_of (Prim.search rules, Prim.grind (arith, Self.row.coded.inj)) };
+    ghost flushes = { Prim.search rules };
 
-    ghost closing = { first_of (Prim.search rules, Prim.grind (arith, Self.row.coded.inj)) };
+    ghost closing = { Prim.search rules };
 
-    ghost keeping = { first_of (Prim.search rules, Prim.grind (arith, Self.row.coded.inj)) };
+    ghost keeping = { Prim.search rules };
 
     fn check_write(&mut self) -> Result<usize, StreamError> {
         self.check_error()?;

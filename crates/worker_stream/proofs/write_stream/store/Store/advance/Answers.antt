@@ -1,4 +1,4 @@
-use Rattle.std.proofs.Common.{arith, rules}
+use Rattle.std.proofs.Common.{rules}
 use Rattle.worker_stream.proofs.Oldest.{advanced_within, advanced_fits}
 use Rattle.worker_stream.proofs.write_stream.store.Store.advance.Goals as goal
 

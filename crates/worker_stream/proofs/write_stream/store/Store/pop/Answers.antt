@@ -1,4 +1,4 @@
-use Rattle.std.proofs.Common.{◌≡◌, ◌-◌, ◌<◌, length, get_or, take, sym, ap, ◌∙◌, arith, rules}
+use Rattle.std.proofs.Common.{◌≡◌, ◌-◌, ◌<◌, get_or, take, sym, ap, ◌∙◌, arith, rules}
 use Rattle.worker_stream.specs.Lengths.{sum_of}
 use Rattle.worker_stream.proofs.Oldest.{unfinished_count, first_within, oldest_length, used_split, younger_kept, queue_popped}
 use Rattle.worker_stream.proofs.write_stream.store.Store.pop.Goals as goal
