@@ -3,7 +3,7 @@
 --   OneLine           no newline stands in the text
 --   AnswersAreLines   each answer's text, with a newline after it, is one line of what is printed
 use Rattle.std.specs.Prelude.{◌≡◌, ℕ, List, ◌∷◌, ◌++◌, codes, decimal, ◌≢◌}
-use Rattle.std.specs.List.{AllByRecursion as All}
+use Rattle.std.specs.List.{AllByRecursion}
 use Rattle.writer.specs.declared.answer.Fault.TheVariants.{WriteZero, Device}
 use Rattle.script.specs.Lines.{lines}
 use Rattle.answers.specs.declared.answer.Answer.{Answer}
@@ -26,7 +26,7 @@ answer_text (Fault (Device code)) = codes "e 20 d " ++ decimal code
 answer_text Misfit = codes "?"
 
 abbrev pub OneLine : List ℕ → Type 0
-OneLine text = All (λ b. b ≢ 10) text
+OneLine text = AllByRecursion (λ b. b ≢ 10) text
 
 abbrev pub AnswersAreLines : Type 0
 AnswersAreLines = (answer : Answer) → OneLine (answer_text answer) × ((rest : List ℕ) → lines (answer_text answer ++ (10 ∷ rest)) ≡ answer_text answer ∷ lines rest)

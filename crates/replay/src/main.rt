@@ -5,9 +5,9 @@
 // first that answers wait, failed, idle or stopped, and prints their words, but none of `finished 0`.
 #![tactic(auto)]
 
-mod handles;
 mod pipes;
 mod printing;
+mod shared_stream;
 
 use answers::Answer;
 use printing::print_bytes;
@@ -43,7 +43,7 @@ fn play(rt: &HostRuntime, lines: &[&[u8]]) -> anyhow::Result<()> {
         return refuse(rt, Answer::Misfit);
     };
     match Limits::new(budget, handles) {
-        Ok(limits) => handles::play(rt, limits, rest),
+        Ok(limits) => shared_stream::play(rt, limits, rest),
         Err(e) => refuse(rt, Answer::Refused(e.code())),
     }
 }

@@ -6,17 +6,17 @@ use Rattle.std.proofs.lemmas.Str.Parse.{IsNumeralModel, numerals_by_value, tells
 use Rattle.std.proofs.lemmas.Bool.{le-leb, cases_Bool, and_from, cond-true, cond-false, both_ways}
 use Rattle.std.proofs.lemmas.Bool.Decides.{nat_tests}
 use Rattle.std.specs.Str.Parse.{AllDigits, digits_value}
-use Rattle.std.specs.Char.{is_ascii_digit, digit_value as digitValue}
+use Rattle.std.specs.Char.{is_ascii_digit, digit_value as value_of_digit}
 use Rattle.std.specs.Str.{all_ascii_digits}
 use Rattle.script.specs.Numbers.{number}
 
 numerals : IsNumeralModel (λ ds. all_ascii_digits ds ≡ true) (digits_value 10)
 numerals = numerals_by_value _ tells_all_ascii_digits
 
-digit_value : (c : ℕ) → is_ascii_digit c ≡ true → digitValue c ≡ c - 48
+digit_value : (c : ℕ) → is_ascii_digit c ≡ true → value_of_digit c ≡ c - 48
 digit_value c h = grind (arith, nat_tests)
 
-digit_small : (c : ℕ) → is_ascii_digit c ≡ true → digitValue c < 10
+digit_small : (c : ℕ) → is_ascii_digit c ≡ true → value_of_digit c < 10
 digit_small c h = grind (arith, nat_tests)
 
 -- the first i bytes are digits, which write n
