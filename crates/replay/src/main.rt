@@ -5,12 +5,12 @@
 // first that answers wait, failed, idle or stopped, and prints their words, but none of `finished 0`.
 #![tactic(auto)]
 
+mod hexadecimal;
 mod pipes;
-mod printing;
 mod shared_stream;
 
 use answers::Answer;
-use printing::print_bytes;
+use hexadecimal::print_bytes;
 use script::number::parse_number;
 use script::{next_line, parse_limits};
 use std::io::Read;

@@ -1,5 +1,5 @@
 // A script over a memory pipe: direct writes, check_write and flush.
-use crate::printing::print_bytes;
+use crate::hexadecimal::print_bytes;
 use answers::Answer;
 use memory_pipe::MemoryOutputPipe;
 use script::{Command, parse_command};

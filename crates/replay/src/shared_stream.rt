@@ -1,5 +1,5 @@
 // A script over a shared stream, played call by call.
-use crate::printing::print_bytes;
+use crate::hexadecimal::print_bytes;
 use calls::Call;
 use calls::perform::perform;
 use memory_writers::MemoryWriter;
