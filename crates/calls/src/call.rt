@@ -1,4 +1,4 @@
-// The calls of a shared stream, and what they answer. Relies on `promises` for the refusals.
+// The calls of a shared stream, and what they answer. Relies on `handles` for the refusals.
 use handles::{DirectError, HandleError, Poll};
 use worker_stream::write_stream::Turn;
 

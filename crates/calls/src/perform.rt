@@ -7,7 +7,6 @@ ghost use Rattle.worker_stream.specs.WorkerOf.{worker_view};
 
 use crate::call::{Answer, Call};
 use shared::AsyncStdoutStream;
-use stream::output::OutputStream;
 use worker_stream::AsyncWriteStream;
 use writer::Writer;
 

@@ -1,6 +1,6 @@
 -- Histories, and what can be said of the past by the history alone. Assumes nothing.
 --   History             calls with their answers, oldest first
---   _▷▷_                one history after another
+--   ◌▷▷◌                one history after another
 --   accepted            the writes accepted, in order; of a handle's write the first bytes, as many as it answered
 --   finished_lengths    the lengths that turns told as finished
 --   moved               all that turns told as moved since the last finished

@@ -1,7 +1,4 @@
-// The line that ends a script's answers.
-
-// The bytes in hexadecimal.
-
+// The line that ends a script's answers: the bytes in hexadecimal.
 pub fn print_bytes(rt: &impl Print, bytes: &[u8]) -> anyhow::Result<()> {
     print!(rt; "= ")?;
     for byte in bytes {

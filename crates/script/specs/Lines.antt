@@ -1,10 +1,10 @@
 -- The lines of a text, and its parts at a mark. Assumes nothing.
---   Parts       two parts of a text, in their order
---   parts       the bytes that two references point to
+--   Parts           two parts of a text, in their order
+--   parts           the bytes that two references point to
 --   split_at_mark   what stands before the first mark and after it, where there is one
---   onto        a byte put in front of the first line
---   lines       the lines, each without its newline; a newline at the end adds no line
---   FirstLine   the first line of a text, and what is left after its newline
+--   onto            a byte put in front of the first line
+--   lines           the lines, each without its newline; a newline at the end adds no line
+--   FirstLine       the first line of a text, and what is left after its newline
 use Rattle.std.specs.Prelude.{◌≡◌, ℕ, ◌+◌, ◌<◌, cond, List, [], ◌∷◌, length, drop, Some, None, Option, ◌==◌}
 use Rattle.std.specs.Borrow.{Bor}
 use Rattle.std.specs.Option.{option_map}

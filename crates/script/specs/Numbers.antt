@@ -1,5 +1,5 @@
 -- How a number is read. Assumes nothing.
---   number   the number that 1 to 9 decimal digits write; leading zeros are allowed
+--   number    the number that 1 to 9 decimal digits write; leading zeros are allowed
 --   at_most   the number, where it is not above a limit
 use Rattle.std.specs.Prelude.{ℕ, cond, ◌&&◌, List, length, Some, None, Option, nat_le}
 use Rattle.std.specs.Str.Parse.{digits_value}

@@ -1,16 +1,16 @@
 -- How a line is read as a command. Assumes nothing.
---   and_then       what the second step makes of the first one's result, where both have one
---   past_blank    what follows a blank
---   alone         a command that is its letter alone
---   argument      one number after a blank, and nothing else
+--   and_then          what the second step makes of the first one's result, where both have one
+--   past_blank        what follows a blank
+--   alone             a command that is its letter alone
+--   argument          one number after a blank, and nothing else
 --   handle_write_of   a handle's number between blanks, and then the bytes
---   letter        the byte of a letter
---   Form          what a command reads from the rest of its line
---   forms         each letter with its form
---   form_of        the form of a letter, or None where the letter has none
---   parsed        the command of a line, or None where the line is a misfit
---   limits        the two numbers of the first line: budget and handles
---   ParsesBack    the canonical text of a command is read as that command
+--   letter            the byte of a letter
+--   Form              what a command reads from the rest of its line
+--   forms             each letter with its form
+--   form_of           the form of a letter, or None where the letter has none
+--   parsed            the command of a line, or None where the line is a misfit
+--   limits            the two numbers of the first line: budget and handles
+--   ParsesBack        the canonical text of a command is read as that command
 use Rattle.std.specs.Prelude.{◌≡◌, ℕ, cond, List, [], ◌∷◌, Some, None, codes, Option, ◌==◌, slice_index}
 use Prim.Native.String.{String}
 use Rattle.std.specs.Option.{option_map}

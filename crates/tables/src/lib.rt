@@ -1,6 +1,6 @@
+// Tables of examples: writers, streams, shared streams and scripts. Each test is proved to be safe, and then run.
 #![tactic(auto)]
 
-// Tables of examples: writers, streams, shared streams and scripts. Each test is proved to be safe, and then run.
 #[cfg(test)]
 mod scripts;
 #[cfg(test)]

@@ -20,7 +20,7 @@ fn misfits(rt: &impl Abort, line: &[u8]) {
 }
 
 #[test]
-fn commands_are_read(rt: HostRuntime) -> Result<(), Fail> {
+fn commands_are_read(rt: HostRuntime) {
     reads(&rt, b"w a b", Command::Write(b"a b"));
     reads(&rt, b"w ", Command::Write(b""));
     reads(&rt, b"c", Command::CheckWrite);
@@ -30,7 +30,6 @@ fn commands_are_read(rt: HostRuntime) -> Result<(), Fail> {
     reads(&rt, b"D 999999999", Command::HandleDrop(999999999));
     reads(&rt, b"p 4096", Command::Plan(PlanEntry::AtMost(4096)));
     reads(&rt, b"r 255", Command::Plan(PlanEntry::Fail(255)));
-    Ok(())
 }
 
 #[test]

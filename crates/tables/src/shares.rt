@@ -5,7 +5,6 @@ use memory_writers::memory::MemoryWriter;
 use shared::AsyncStdoutStream;
 use std::test::Fail;
 use stream::Limits;
-use stream::output::OutputStream;
 
 fn two_handles() -> Result<Limits, Fail> {
     match Limits::new(2, 2) {

@@ -1,7 +1,7 @@
 -- What a worker stream is, over the view of its writer. Assumes nothing.
 --   WorkerView   the view
 --   fresh        a stream just made
---   with-..      the same view with one part changed
+--   with_..      the same view with one part changed
 use Rattle.std.specs.Prelude.{ℕ, Bool, false, List, []}
 use Rattle.worker_stream.specs.declared.write_stream.worker.Status.{Status}
 use Rattle.worker_stream.specs.declared.write_stream.worker.Status.TheVariants.{Alive}

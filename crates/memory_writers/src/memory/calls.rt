@@ -2,7 +2,7 @@
 ghost use Rattle.std.specs.Prelude.{◌≡◌, ◌++◌};
 ghost use Rattle.memory_writers.specs.Area.{Area, fresh_area};
 ghost use Rattle.memory_writers.specs.Stores.{memory_view, MemoryWrites, AreaFlushes};
-ghost use Rattle.std.proofs.Common.{rules, arith};
+ghost use Rattle.std.proofs.Common.{rules};
 
 use super::MemoryWriter;
 use crate::buffer::Buffer;

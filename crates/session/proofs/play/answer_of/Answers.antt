@@ -1,5 +1,4 @@
 use Rattle.std.proofs.Common.{◌+◌, ◌∷◌, drop, sym, ap, ◌∙◌}
-use Rattle.script_reading.specs.Reading.{}
 use Rattle.session.specs.Merging.{merged}
 use Rattle.session.proofs.Playing.{called_reply, called_none}
 use Rattle.session.proofs.play.answer_of.Goals as goal

@@ -1,5 +1,4 @@
 use Rattle.std.proofs.Common.{◌≡◌, ◌++◌, drop, vec_items}
-use Rattle.script_reading.specs.Reading.{}
 use Rattle.session.specs.Merging.{merged}
 use Rattle.session.proofs.play.merge.Given as goal
 

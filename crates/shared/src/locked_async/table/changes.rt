@@ -1,6 +1,6 @@
 // Reading a handle, and changing one that is lent. Relies on nothing.
 ghost use Rattle.std.specs.Prelude.{◌≡◌, ◌<◌, false, length, get_or, replicate, slice_index_or, slice_set};
-ghost use Rattle.promises.specs.SharedView.{HandleView, dropped};
+ghost use Rattle.promises.specs.SharedView.{dropped};
 ghost use Rattle.handles.specs.declared.handle.HandleState.TheVariants.{Ready};
 ghost use Rattle.shared.specs.Asking.{met, wanting, NumberBelow};
 ghost use Rattle.shared.specs.TableOf.{handles_of};

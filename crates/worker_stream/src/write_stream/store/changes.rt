@@ -1,5 +1,5 @@
 // Queueing a write, offering its rest, and letting it go. Relies on `job`.
-ghost use Rattle.std.specs.Prelude.{◌≡◌, ◌+◌, ◌-◌, ◌<◌, ◌≤◌, List, [], ◌∷◌, ◌++◌, length, drop};
+ghost use Rattle.std.specs.Prelude.{◌≡◌, ◌+◌, ◌-◌, ◌<◌, ◌≤◌, [], ◌∷◌, ◌++◌, length, drop};
 ghost use Rattle.worker_stream.specs.StoreView.{unfinished, oldest, rest};
 ghost use Rattle.worker_stream.specs.Work.{work_left, Next};
 

@@ -9,7 +9,7 @@ ghost use Rattle.worker_stream.specs.WorkerTurn.{TurnedOnce};
 ghost use Rattle.worker_stream.specs.WorkerView.{WorkerView, fresh, with_status};
 ghost use Rattle.worker_stream.specs.declared.write_stream.worker.Status.TheVariants.{Alive, Faulted, Closed as ClosedStatus};
 ghost use Rattle.worker_stream.specs.Permits.{permit_holds};
-ghost use Rattle.std.proofs.Common.{rules, arith};
+ghost use Rattle.std.proofs.Common.{rules};
 
 use super::{AsyncWriteStream, Status};
 use crate::write_stream::store::Store;
