@@ -1,2 +1,2 @@
 pub mod PipeView
-pub mod Pipes
+pub mod Permits

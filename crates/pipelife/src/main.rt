@@ -84,11 +84,7 @@ fn pipe_of_none(rt: &(impl Print + AllocGlobal)) -> anyhow::Result<()> {
     Ok(())
 }
 
-fn run(rt: &HostRuntime) -> anyhow::Result<()> {
-    pipe_of_three(rt)?;
-    pipe_of_none(rt)
-}
-
 fn main(rt: HostRuntime) -> anyhow::Result<()> {
-    run(&rt)
+    pipe_of_three(&rt)?;
+    pipe_of_none(&rt)
 }

@@ -3,8 +3,8 @@ ghost use Rattle.std.specs.Prelude.{◌≡◌, List, [], ◌∷◌, drop, IfOk};
 ghost use Rattle.script.specs.Lines.{lines};
 ghost use Rattle.script_reading.specs.declared.slot.Slot.{Slot};
 ghost use Rattle.script_reading.specs.Reading.{lines_read, unread};
-ghost use Rattle.session.specs.Merging.{merged};
 ghost use Rattle.script_reading.specs.ReadingOf.{read_of};
+ghost use Rattle.session.specs.Merging.{merged};
 ghost use Rattle.session.specs.Scripts.{Played, ScriptAnswers, OneEach};
 
 use answers::Answer;

@@ -108,8 +108,8 @@ module _ {S V : Type 0} (view : S → V) (a : AsyncStdoutStream S) where
   pub room : (h : ℕ) → (handle h (shared_view view a)).state ≡ Ready → length (queue_of a.parts.lock) < 16
   room h ready = room_to_join (length (handles_of a.parts.table)) h (lock_of (shared_view view a)) carried (omega (arith, a.parts.table.few, length-take a.parts.table.count a.parts.table.handles)) ready
 
-pub carries_on : {V : Type 0} (n : ℕ) (t v : SharedView V) → t ≡ v → QueueInvariant n (lock_of v) → EachQueued t.queue t.handles × NoMoreQueued t.queue t.handles
-carries_on n t v e k = rw e (k.each, k.whole)
+pub carries_on : {V : Type 0} (n : ℕ) (t v : SharedView V) → t ≡ v → QueueInvariant n (lock_of v) → QueueInvariant n (lock_of t)
+carries_on n t v e k = rw e k
 
 none_queued : (n : ℕ) → count_queued (replicate n (record { state = Ready; mark = false })) ≡ 0
 none_queued zero = refl

@@ -52,7 +52,7 @@ fn plan_of_33(rt: HostRuntime) -> Result<(), Fail> {
         Err(full) => {
             assert_eq!(rt; full.code(), 3);
             Ok(())
-        },
+        }
     }
 }
 

@@ -2,7 +2,7 @@
 ghost use Rattle.std.specs.Prelude.{◌≡◌, ◌≤◌, true, false, ◌++◌, length};
 ghost use Rattle.memory_pipe.specs.PipeView.{PipeView, pipe_view, fresh, refusal, meaning, checked, accept, accepts, wrote, flushed};
 ghost use Rattle.stream.specs.Questions.{answered};
-ghost use Rattle.memory_pipe.specs.Pipes.{permit_holds};
+ghost use Rattle.memory_pipe.specs.Permits.{permit_holds};
 ghost use Rattle.std.proofs.Common.{rules};
 
 use super::MemoryOutputPipe;

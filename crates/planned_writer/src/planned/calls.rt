@@ -1,7 +1,7 @@
 // The calls of a planned writer, by the entries left of its plan.
 ghost use Rattle.std.specs.Prelude.{◌≡◌, ◌+◌, ◌<◌, false, [], ◌∷◌, take, is_ok, if◌then◌else◌, Some, None, nat_lt};
 ghost use Rattle.planned_writer.specs.Planned.{PlannedView, left_from, planned_view, view_below, unplanned, appended, with_next, most_entries, refusal_number, PlannedWrites, PlannedFlushes};
-ghost use Rattle.planned_writer.specs.Plans.{planned_wrote};
+ghost use Rattle.planned_writer.specs.Handed.{planned_wrote};
 ghost use Rattle.std.proofs.Common.{rules};
 
 use super::{PlanFull, PlannedWriter};

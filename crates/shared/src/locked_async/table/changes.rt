@@ -1,5 +1,5 @@
 // Reading a handle, and changing one that is lent. Relies on nothing.
-ghost use Rattle.std.specs.Prelude.{◌≡◌, ◌<◌, false, length, get_or, replicate, slice_index_or, slice_set};
+ghost use Rattle.std.specs.Prelude.{◌≡◌, ◌<◌, false, length, replicate, slice_index_or, slice_set};
 ghost use Rattle.promises.specs.SharedView.{dropped};
 ghost use Rattle.handles.specs.declared.handle.HandleState.TheVariants.{Ready};
 ghost use Rattle.shared.specs.Asking.{met, wanting, NumberBelow};
@@ -94,7 +94,7 @@ impl Table {
 
     // Asks one handle; the others stay.
     pub(crate) fn ask(&mut self, number: usize, request: Request) -> Met
-        ensures told { result ≡ met (get_or (handles_of self.old) number dropped).state request }
+        ensures told { result ≡ met (slice_index_or (handles_of self.old) number dropped).state request }
         ensures left { handles_of self.new ≡ slice_set (handles_of self.old) number (wanting result (slice_index_or (handles_of self.old) number dropped)) }
         ensures bound { NumberBelow 16 result number }
     {

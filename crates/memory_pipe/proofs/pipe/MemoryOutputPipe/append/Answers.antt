@@ -1,5 +1,5 @@
 use Rattle.std.proofs.Common.{◌≡◌, length, vec_items, vec_len, arith, rules}
-use Rattle.memory_pipe.specs.Pipes.{room_within, copied_is, accepted_is}
+use Rattle.memory_pipe.proofs.Pipes.{room_within, copied_is, accepted_is}
 use Rattle.memory_pipe.proofs.pipe.MemoryOutputPipe.append.Goals as goal
 
 pub slice_bounds-copy_from_slice-end : goal.slice_bounds-copy_from_slice-end

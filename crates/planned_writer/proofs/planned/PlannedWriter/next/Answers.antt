@@ -1,5 +1,5 @@
 use Rattle.std.proofs.Common.{◌<◌, rules}
-use Rattle.planned_writer.specs.Plans.{left_at, left_none}
+use Rattle.planned_writer.proofs.Plans.{left_at, left_none}
 use Rattle.planned_writer.proofs.planned.PlannedWriter.next.Goals as goal
 
 pub returns-then-self : goal.returns-then-self

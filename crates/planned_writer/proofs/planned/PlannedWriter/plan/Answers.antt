@@ -1,5 +1,5 @@
 use Rattle.std.proofs.Common.{◌+◌, ◌<◌, length, ap, rules}
-use Rattle.planned_writer.specs.Plans.{left_push}
+use Rattle.planned_writer.proofs.Plans.{left_push}
 use Rattle.planned_writer.proofs.planned.PlannedWriter.plan.Goals as goal
 
 pub returns : goal.returns

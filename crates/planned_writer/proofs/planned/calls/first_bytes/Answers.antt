@@ -1,5 +1,5 @@
 use Rattle.std.proofs.Common.{rules}
-use Rattle.planned_writer.specs.Plans.{take_handed}
+use Rattle.planned_writer.proofs.Plans.{take_handed}
 use Rattle.planned_writer.proofs.planned.calls.first_bytes.Goals as goal
 
 pub returns : goal.returns

@@ -11,4 +11,4 @@ invariant_of-self g c =
     let a = c.args.self.now in
     let n = length (handles_of a.parts.table) in
     let kept = carries_on n (parts_view O.view c.drop_handle.new.self) _ c.drop_handle.ensures.left (drop_keeps n c.args.handle (shared_view O.view a) (carried O.view a)) in
-    record { each = kept.0; whole = kept.1 }
+    record { each = kept.each; whole = kept.whole }

@@ -14,4 +14,4 @@ invariant_of-self g c =
     let a = c.args.self.now in
     let n = length (handles_of a.parts.table) in
     let kept = carries_on n (parts_view O.view c.poll_write.new.self) _ c.poll_write.ensures.left (write_keeps n c.args.handle O.meaning O.checked O.wrote c.args.bytes.now (shared_view O.view a) (carried O.view a)) in
-    record { each = kept.0; whole = kept.1 }
+    record { each = kept.each; whole = kept.whole }

@@ -1,14 +1,11 @@
--- What the calls of a memory pipe leave of its view, and that a permit holds. Assumes nothing.
-use Rattle.std.specs.Prelude.{◌≡◌, ℕ, ◌+◌, ◌-◌, ◌<◌, ◌≤◌, Bool, true, false, cond, List, ◌++◌, length, take, drop, Ok, vec_items, nat_lt, refl}
-use Rattle.std.proofs.Common.{sym, ap, ◌∙◌, arith, length-take, length-drop, length-append, lt-ltb, le-leb}
+-- What an append leaves of the view of a memory pipe. Assumes nothing.
+use Rattle.std.specs.Prelude.{◌≡◌, ℕ, ◌+◌, ◌-◌, ◌≤◌, List, ◌++◌, length, take, drop, vec_items, refl}
+use Rattle.std.proofs.Common.{sym, ap, ◌∙◌, arith, length-take, length-drop, length-append}
 use borrow.Rule.Slice.PartMut.{put_mid}
 use Rattle.std.proofs.lemmas.List.{drop-drop, take_at}
 use Rattle.std.proofs.lemmas.Slice.{take-put_mid, drop-put_mid}
 use Rattle.memory_pipe.specs.declared.pipe.MemoryOutputPipe.{MemoryOutputPipe}
-use Rattle.stream.specs.HostTurns.{HostTurns, none, more}
-use Rattle.stream.specs.Meaning.{open_with, closed, permit}
-use Rattle.memory_pipe.specs.PipeView.{PipeView, pipe_view, meaning, checked, accept, accepts}
-use Rattle.stream.specs.StreamRules.{PermitRule}
+use Rattle.memory_pipe.specs.PipeView.{PipeView, pipe_view, accept}
 
 same_view : {h h' r r' : List ℕ} → h ≡ h' → r ≡ r' → ◌≡◌ {A = PipeView} (record { held = h; room = r }) (record { held = h'; room = r' })
 same_view e f = cc
@@ -32,24 +29,3 @@ module _ (h : ℕ) (xs bytes : List ℕ) (within : h + length bytes ≤ length x
       same_view
       (ap (take (h + length bytes)) is ∙ take-put_mid h (h + length bytes - h) xs bytes (h + length bytes) refl (omega arith))
       (ap (drop (h + length bytes)) is ∙ drop-put_mid h (h + length bytes - h) xs bytes (h + length bytes) (omega arith) (omega arith) (omega arith) ∙ sym (drop-drop (length bytes) h xs))
-
--- without host turns a stream stays as it is
-stays : {V : Type 0} {s t : V} → HostTurns (λ a b. ⊥) s t → s ≡ t
-stays none = refl
-stays (more run d) = absurd d
-
-permitted_room : (s : PipeView) (n : ℕ) → permit (meaning s) ≡ Ok n → length s.room ≡ n
-permitted_room s n e = go (nat_lt 0 (length s.room)) e
-  where
-    go : (b : Bool) → permit (cond b (open_with (length s.room)) closed) ≡ Ok n → length s.room ≡ n
-    go true e = cc
-    go false e = absurd (let z : ◌≡◌ {A = ℕ} 0 1 = cc in omega arith)
-
-fitting_accepted : (s : PipeView) (bytes : List ℕ) → 0 < length s.room → length bytes ≤ length s.room → accepts s bytes ≡ Ok tt
-fitting_accepted s bytes some few = rw (lt-ltb 0 (length s.room) some, le-leb (length bytes) (length s.room) few)
-
-pub permit_holds : PermitRule meaning (λ a b. ⊥) checked accepts
-permit_holds s t n bytes e some few run =
-    let is : length s.room ≡ n = permitted_room s n e in
-    let kept : length t.room ≡ n = ap (λ v. length v.room) (sym (stays run)) ∙ is in
-    rw (fitting_accepted t bytes (omega arith) (omega arith)) tt
