@@ -1,6 +1,5 @@
 -- What a planned writer answers, by the entries left of its plan. Assumes nothing.
 --   PlannedView      the entries left, how many were ever planned, and what stands below
---   left_from        the entries left of a planned writer's plan once so many are spent
 --   planned_view     the view of a planned writer, with the writer itself below
 --   view_below       the same with a view of the writer below
 --   unplanned        no entry was planned yet
@@ -13,6 +12,7 @@
 --   PlannedWrites    a write: by the next entry, or handed down when none is left
 --   PlannedFlushes   the same of a flush
 use Rattle.std.specs.Prelude.{◌≡◌, ℕ, ◌+◌, List, [], ◌∷◌, ◌++◌, take, drop}
+use Rattle.arrayvec.specs.ArrayVec.{array_vec_len}
 use Rattle.writer.specs.declared.answer.Fault.TheVariants.{Device}
 use Rattle.writer.specs.declared.answer.WriteAnswer.{WriteAnswer}
 use Rattle.writer.specs.declared.answer.WriteAnswer.TheVariants.{NotYet as WriteNotYet, Failed as WriteFailed}
@@ -28,11 +28,8 @@ pub record PlannedView (V : Type 0) : Type 0 where
   pub planned : ℕ
   pub below : V
 
-abbrev pub left_from : {W : Type 0} → ℕ → PlannedWriter W → List PlanEntry
-left_from spent p = drop spent (take p.planned p.entries)
-
 abbrev pub planned_view : {W : Type 0} → PlannedWriter W → PlannedView W
-planned_view p = record { plan = left_from p.spent p; planned = p.planned; below = p.inner }
+planned_view p = record { plan = drop p.spent p.entries.items; planned = array_vec_len p.entries; below = p.inner }
 
 abbrev pub view_below : {W V : Type 0} → (W → V) → PlannedView W → PlannedView V
 view_below view v = record { plan = v.plan; planned = v.planned; below = view v.below }

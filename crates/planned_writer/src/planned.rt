@@ -1,22 +1,22 @@
 // A writer over another, whose first answers are planned. Relies on the entries of `plan`.
-ghost use Rattle.std.specs.Prelude.{◌≡◌, ◌≤◌, length};
+ghost use Rattle.std.specs.Prelude.{◌≤◌};
+ghost use Rattle.arrayvec.specs.ArrayVec.{array_vec_len};
 
 use crate::plan::PlanEntry;
+use arrayvec::ArrayVec;
 
 // The refusal of one more entry.
 #[derive(Clone, Copy, PartialEq, Eq, Debug)]
 pub struct PlanFull;
 
-// The entries left are `entries[spent..planned]`; a spent entry keeps its place.
+// The first `spent` of the entries are spent, and keep their places. There is no `impl Model`:
+// a refused entry leaves the spent entries too, which the view has forgotten.
 #[derive(Drop)]
 pub struct PlannedWriter<W> {
     inner: W,
-    entries: [PlanEntry; 32],
-    planned: usize,
+    entries: ArrayVec<PlanEntry, 32>,
     spent: usize,
-    ghost sized: { length entries ≡ 32 },
-    ghost few: { planned ≤ 32 },
-    ghost within: { spent ≤ planned },
+    ghost within: { spent ≤ array_vec_len entries },
 }
 
 pub mod calls;

@@ -1,11 +1,12 @@
 // The calls of a planned writer, by the entries left of its plan.
-ghost use Rattle.std.specs.Prelude.{◌≡◌, ◌+◌, ◌<◌, false, [], ◌∷◌, take, is_ok, if◌then◌else◌, Some, None, nat_lt};
-ghost use Rattle.planned_writer.specs.Planned.{PlannedView, left_from, planned_view, view_below, unplanned, appended, with_next, most_entries, refusal_number, PlannedWrites, PlannedFlushes};
+ghost use Rattle.std.specs.Prelude.{◌≡◌, [], take, is_ok, if◌then◌else◌, nat_lt, OnErr, IfSome, IfNone};
+ghost use Rattle.planned_writer.specs.Planned.{PlannedView, planned_view, view_below, unplanned, appended, with_next, most_entries, refusal_number, PlannedWrites, PlannedFlushes};
 ghost use Rattle.planned_writer.specs.Handed.{planned_wrote};
 ghost use Rattle.std.proofs.Common.{rules};
 
 use super::{PlanFull, PlannedWriter};
 use crate::plan::PlanEntry;
+use arrayvec::ArrayVec;
 use writer::{Fault, FlushAnswer, WriteAnswer, Writer};
 
 impl PlanFull {
@@ -23,8 +24,7 @@ impl<W> PlannedWriter<W> {
     {
         PlannedWriter {
             inner,
-            entries: [PlanEntry::NotYet; 32],
-            planned: 0,
+            entries: ArrayVec::new(),
             spent: 0,
         }
     }
@@ -33,14 +33,9 @@ impl<W> PlannedWriter<W> {
     pub fn plan(&mut self, entry: PlanEntry) -> Result<(), PlanFull>
         ensures told { is_ok result ≡ nat_lt (planned_view self.old).planned most_entries }
         ensures left { planned_view self.new ≡ (if is_ok result then appended entry (planned_view self.old) else planned_view self.old) }
-        ensures same { is_ok result ≡ false → self.new ≡ self.old }
+        ensures same { OnErr result (self.new ≡ self.old) }
     {
-        if self.planned == self.entries.len() {
-            return Err(PlanFull);
-        }
-        self.entries[self.planned] = entry;
-        self.planned += 1;
-        Ok(())
+        self.entries.try_push(entry).map_err(|_| PlanFull)
     }
 
     pub fn inner(&self) -> &W
@@ -55,27 +50,18 @@ impl<W> PlannedWriter<W> {
         let PlannedWriter {
             inner,
             entries: _,
-            planned: _,
             spent: _,
         } = self;
         inner
     }
 
-    // The next entry, and what the plan leaves once it is spent.
-    fn next(&self) -> Option<PlanEntry>
-        ensures told { elim result [ None ↦ left_from self.now.spent self.now ≡ [] | Some e ↦ (self.now.spent < self.now.planned) × (left_from self.now.spent self.now ≡ e ∷ left_from (self.now.spent + 1) self.now) ] }
-    {
-        if self.spent == self.planned {
-            return None;
-        }
-        Some(self.entries[self.spent])
-    }
-
     // Spends the next entry.
     fn spend(&mut self) -> Option<PlanEntry>
-        ensures left { elim result [ None ↦ ((planned_view self.old).plan ≡ []) × (planned_view self.new ≡ planned_view self.old) | Some e ↦ planned_view self.old ≡ with_next e (planned_view self.new) ] }
+        ensures spent { IfSome result (λ e. planned_view self.old ≡ with_next e (planned_view self.new)) }
+        ensures none { IfNone result ((planned_view self.old).plan ≡ []) }
+        ensures same { IfNone result (self.new ≡ self.old) }
     {
-        let entry = self.next()?;
+        let entry = self.entries.get(self.spent).copied()?;
         self.spent += 1;
         Some(entry)
     }
@@ -85,8 +71,7 @@ impl<W> PlannedWriter<W> {
 fn first_bytes(part: &[u8], most: u16) -> &[u8]
     ensures value { result.now ≡ take most part.now }
 {
-    let count = (most as usize).min(part.len());
-    &part[0..count]
+    &part[..usize::from(most).min(part.len())]
 }
 
 impl<W: Writer> Writer for PlannedWriter<W> {
