@@ -1,13 +1,11 @@
 -- A buffer that takes bytes from a start on, by the parts that it falls into. Assumes nothing.
 --   Area          the bytes before the start, the bytes taken, the bytes past these, and how many were covered
 --   divided       the area of these bytes, of which those from start to at were taken
---   area          the area of a buffer
 --   fresh_area    nothing was taken yet; a start past the end means the end
 --   fitting       how many bytes of a part fit
 --   extended      the first n bytes of a part were taken
 --   all_covered   all bytes taken are covered
-use Rattle.std.specs.Prelude.{ℕ, ◌-◌, min, List, [], ◌++◌, length, take, drop, vec_items}
-use Rattle.memory_writers.specs.declared.buffer.Buffer.{Buffer}
+use Rattle.std.specs.Prelude.{ℕ, min, List, [], ◌++◌, length, take, drop, slice_range}
 
 pub record Area : Type 0 where
   pub before : List ℕ
@@ -16,10 +14,7 @@ pub record Area : Type 0 where
   pub covered : ℕ
 
 abbrev pub divided : ℕ → ℕ → ℕ → List ℕ → Area
-divided start at covered bytes = record { before = take start bytes; taken = take (at - start) (drop start bytes); room = drop at bytes; covered = covered }
-
-abbrev pub area : Buffer → Area
-area b = divided b.start b.at b.covered (vec_items b.bytes)
+divided start at covered bytes = record { before = take start bytes; taken = slice_range bytes start at; room = drop at bytes; covered = covered }
 
 abbrev pub fresh_area : ℕ → List ℕ → Area
 fresh_area start bytes = record { before = take start bytes; taken = []; room = drop start bytes; covered = 0 }

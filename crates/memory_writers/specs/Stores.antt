@@ -1,6 +1,4 @@
 -- What the two writers over a buffer answer, and the area that they leave. Assumes nothing.
---   memory_view    the area of a memory writer's buffer
---   image_view     the area of an image writer's buffer
 --   no_space       the device code of an image that has no room left
 --   image_answer   the answer of an image writer, by how many bytes were offered and how many fit
 --   MemoryWrites   a memory writer takes what fits, and none when it is full
@@ -12,15 +10,7 @@ use Rattle.writer.specs.declared.answer.WriteAnswer.{WriteAnswer}
 use Rattle.writer.specs.declared.answer.WriteAnswer.TheVariants.{Took, Failed}
 use Rattle.writer.specs.declared.answer.FlushAnswer.{FlushAnswer}
 use Rattle.writer.specs.declared.answer.FlushAnswer.TheVariants.{Done}
-use Rattle.memory_writers.specs.declared.memory.MemoryWriter.{MemoryWriter}
-use Rattle.memory_writers.specs.declared.image.ImageWriter.{ImageWriter}
-use Rattle.memory_writers.specs.Area.{Area, area, fitting, extended, all_covered}
-
-abbrev pub memory_view : MemoryWriter → Area
-memory_view m = area m.buffer
-
-abbrev pub image_view : ImageWriter → Area
-image_view m = area m.buffer
+use Rattle.memory_writers.specs.Area.{Area, fitting, extended, all_covered}
 
 abbrev pub no_space : ℕ
 no_space = 28

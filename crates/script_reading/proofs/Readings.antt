@@ -5,8 +5,7 @@ use Rattle.answers.specs.declared.answer.Answer.TheVariants.{Accepted, Refused, 
 use Rattle.memory_writers.specs.declared.memory.MemoryWriter.{MemoryWriter}
 use Rattle.planned_writer.specs.declared.planned.PlannedWriter.{PlannedWriter}
 use Rattle.memory_writers.specs.Area.{fresh_area}
-use Rattle.memory_writers.specs.Stores.{memory_view}
-use Rattle.planned_writer.specs.Planned.{planned_view, view_below, unplanned, appended, most_entries}
+use Rattle.planned_writer.specs.Planned.{planned_view, unplanned, appended, most_entries}
 use Rattle.calls.specs.declared.call.Call.{Call}
 use Rattle.calls.specs.Calls.{call_view}
 use Rattle.script_reading.specs.declared.slot.Slot.{Slot}
@@ -23,11 +22,11 @@ pub one_call : (w : WriterView) (slots slots' : List Slot) (cs cs' : List Call) 
 one_call w slots slots' cs cs' c e f =
     ap (λ xs. record { writer = w; slots = xs; calls = map call_view cs' }) e ∙ ap (λ ys. record { writer = w; slots = slots ++ Called ∷ []; calls = ys }) (ap (map call_view) f ∙ map_push cs c)
 
-pub nothing_read : (w : PlannedWriter MemoryWriter) (m : MemoryWriter) (bytes : List ℕ) (slots : List Slot) (cs : List Call) → planned_view w ≡ unplanned m → memory_view m ≡ fresh_area 0 bytes → bytes ≡ replicate 32768 0 → slots ≡ [] → cs ≡ [] →
+pub nothing_read : (w : PlannedWriter MemoryWriter) (m : MemoryWriter) (bytes : List ℕ) (slots : List Slot) (cs : List Call) → planned_view w ≡ unplanned m → m ≡ fresh_area 0 bytes → bytes ≡ replicate 32768 0 → slots ≡ [] → cs ≡ [] →
     record { writer = writer_view w; slots = slots; calls = map call_view cs } ≡ unread
 unfolding unread
 nothing_read w m bytes slots cs e f h s k =
-    ap (λ v. record { writer = view_below memory_view v; slots = slots; calls = map call_view cs }) e
+    ap (λ v. record { writer = v; slots = slots; calls = map call_view cs }) e
     ∙ ap (λ a. record { writer = unplanned a; slots = slots; calls = map call_view cs }) (f ∙ ap (fresh_area 0) h)
     ∙ ap (λ xs. record { writer = unplanned (fresh_area 0 (replicate 32768 0)); slots = xs; calls = map call_view cs }) s
     ∙ ap (λ ys. record { writer = unplanned (fresh_area 0 (replicate 32768 0)); slots = []; calls = map call_view ys }) k

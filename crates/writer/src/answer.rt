@@ -9,7 +9,8 @@ pub enum Fault {
     Device(u8),
 }
 
-// The answer to a write of a part.
+// The answer to a write of a part. The rules name its three answers one by one, and so does the enum:
+// a `Result<Poll<usize>, Fault>` would be no plainer.
 #[derive(Clone, Copy, PartialEq, Eq, Debug)]
 pub enum WriteAnswer {
     // The first so many bytes of the part were taken.
@@ -18,7 +19,7 @@ pub enum WriteAnswer {
     Failed(Fault),
 }
 
-// The answer to a flush.
+// The answer to a flush: three again, one by one as the rules name them.
 #[derive(Clone, Copy, PartialEq, Eq, Debug)]
 pub enum FlushAnswer {
     // All bytes taken are covered.

@@ -1,7 +1,5 @@
-use Rattle.std.proofs.Common.{◌≡◌, length, vec_items, vec_len, sym, ap, ◌∙◌, eqb-true}
+use Rattle.std.proofs.Common.{◌≡◌, length, vec_items, vec_len, sym, ◌∙◌, eqb-true}
 use borrow.Author.Tests.{eqb-false}
-use Rattle.memory_writers.specs.Stores.{memory_view}
-use Rattle.planned_writer.specs.Planned.{view_below}
 use Rattle.script_reading.specs.ReadingOf.{writer_view}
 use Rattle.script_reading.proofs.Readings.{plans_late, plans_full, plans_more}
 use Rattle.script_reading.proofs.reading.Reading.plan.Goals as goal
@@ -16,12 +14,12 @@ pub returns-in-Ok : goal.returns-in-Ok
 returns-in-Ok c =
     let r = c.args.self.now in
     let none : length (vec_items r.calls) ≡ 0 = sym r.calls.ok.0 ∙ eqb-true (vec_len r.calls) 0 (sym c.if-not-is_empty.ensures) in
-    let e = plans_more c.args.entry (writer_view r.writer) (vec_items r.slots) (vec_items r.calls) (writer_view c.plan.new.self) none c.in-Ok.ensures.told (ap (view_below memory_view) c.in-Ok.ensures.left) in
+    let e = plans_more c.args.entry (writer_view r.writer) (vec_items r.slots) (vec_items r.calls) (writer_view c.plan.new.self) none c.in-Ok.ensures.told c.in-Ok.ensures.left in
     rw e c.say-in-Ok.ensures
 
 pub returns-in-Err : goal.returns-in-Err
 returns-in-Err c =
     let r = c.args.self.now in
     let none : length (vec_items r.calls) ≡ 0 = sym r.calls.ok.0 ∙ eqb-true (vec_len r.calls) 0 (sym c.if-not-is_empty.ensures) in
-    let e = plans_full c.args.entry (writer_view r.writer) (vec_items r.slots) (vec_items r.calls) (writer_view c.plan.new.self) c.code.result none c.in-Err.ensures.told (ap (view_below memory_view) c.in-Err.ensures.left) c.code.ensures.value in
+    let e = plans_full c.args.entry (writer_view r.writer) (vec_items r.slots) (vec_items r.calls) (writer_view c.plan.new.self) c.code.result none c.in-Err.ensures.told c.in-Err.ensures.left c.code.ensures.value in
     rw e c.say-in-Err.ensures
