@@ -7,7 +7,7 @@ use Rattle.std.proofs.lemmas.List.{drop-append-le, with_items_is}
 use Rattle.std.proofs.lemmas.Slice.{between_is, overwrites}
 use Rattle.memory_writers.specs.Area.{divided, extended}
 
--- of a vector, q was put at e, behind the bytes from s on: q is the first n bytes of the part, and k counts them too
+-- the n bytes q were put into a vector at e, behind the bytes from s on; k is how a range counts them
 module _ {Z : Type 0} (v : Vec ℕ Z) (s e n c k : ℕ) (q part : List ℕ) (ordered : s ≤ e) (within : e + n ≤ v.len) (few : n ≤ length part) (size : k ≡ n) (is : q ≡ take n part) where
   before_is : take s (put_mid e k v.items q) ≡ take s v.items
   before_is = grind (arith, overwrites, v.ok)
