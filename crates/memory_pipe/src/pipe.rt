@@ -46,7 +46,7 @@ impl MemoryOutputPipe {
     pub fn into_inner(self) -> Vec<u8>
         ensures value { result.items ≡ self.held ++ self.room }
     {
-        let MemoryOutputPipe { buffer, held: _ } = self;
+        let MemoryOutputPipe { buffer, .. } = self;
         buffer
     }
 

@@ -71,12 +71,6 @@ impl Buffer {
     pub fn into_bytes(self) -> Vec<u8>
         ensures value { result.items ≡ self.before ++ (self.taken ++ self.room) }
     {
-        let Buffer {
-            bytes,
-            start: _,
-            at: _,
-            covered: _,
-        } = self;
-        bytes
+        self.bytes
     }
 }

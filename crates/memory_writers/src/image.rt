@@ -52,8 +52,7 @@ impl ImageWriter {
     pub fn into_image(self) -> Vec<u8>
         ensures value { result.items ≡ self.before ++ (self.taken ++ self.room) }
     {
-        let ImageWriter { buffer } = self;
-        buffer.into_bytes()
+        self.buffer.into_bytes()
     }
 }
 

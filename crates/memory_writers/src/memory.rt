@@ -52,8 +52,7 @@ impl MemoryWriter {
     pub fn into_buffer(self) -> Vec<u8>
         ensures value { result.items ≡ self.taken ++ self.room }
     {
-        let MemoryWriter { buffer } = self;
-        buffer.into_bytes()
+        self.buffer.into_bytes()
     }
 }
 

@@ -47,12 +47,7 @@ impl<W> PlannedWriter<W> {
     pub fn into_inner(self) -> W
         ensures value { result ≡ (planned_view self).below }
     {
-        let PlannedWriter {
-            inner,
-            entries: _,
-            spent: _,
-        } = self;
-        inner
+        self.inner
     }
 
     // Spends the next entry.
