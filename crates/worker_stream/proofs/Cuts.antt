@@ -1,37 +1,47 @@
--- Lists of bytes cut into parts of given lengths. Assumes nothing.
-use Rattle.std.proofs.Common.{◌≡◌, ℕ, zero, suc, ◌+◌, ◌-◌, ◌<◌, ◌≤◌, List, [], ◌∷◌, ◌++◌, length, get_or, take, drop, sym, refl, ap, ◌∙◌, add_assoc, arith}
-use Rattle.std.proofs.lemmas.List.{take-take, drop-take, drop-drop, length-take-le}
-use Rattle.worker_stream.specs.Lengths.{sum_of}
-use Rattle.worker_stream.specs.StoreView.{cuts}
+-- Lists of bytes cut into parts whose lengths add up to theirs. Assumes nothing.
+use Rattle.std.proofs.Common.{◌≡◌, ℕ, suc, ◌+◌, ◌-◌, ◌≤◌, Bool, List, [], ◌∷◌, ◌++◌, length, get_or, take, drop, slice_get, Some, refl, ap, ◌∙◌, arith, length-drop, Bor}
+use Rattle.std.proofs.lemmas.List.{take_all, take-append-le, drop-append-le, length-take-le}
+use Rattle.std.proofs.lemmas.List.Sums.{sum_by-cons}
+use Rattle.std.specs.List.{sum}
+use Rattle.std.proofs.lemmas.Slice.{between_is}
+use Rattle.worker_stream.specs.declared.write_stream.job.Job.TheVariants.{Write}
+use Rattle.worker_stream.specs.Work.{work_left, Next}
+use Rattle.worker_stream.specs.StoreView.{cuts, oldest}
 
-length_cuts : (ns bytes : List ℕ) → length (cuts ns bytes) ≡ length ns
+sum_cons : (n : ℕ) (ns : List ℕ) → sum (n ∷ ns) ≡ n + sum ns
+sum_cons n ns = sum_by-cons (λ k. k) n ns
+
+pub length_cuts : (ns bytes : List ℕ) → length (cuts ns bytes) ≡ length ns
 length_cuts [] bytes = refl
 length_cuts (n ∷ ns) bytes = ap (λ k. suc k) (length_cuts ns (drop n bytes))
 
-pub count_cuts : (k : ℕ) (ns bytes : List ℕ) → k ≤ length ns → length (cuts (take k ns) bytes) ≡ k
-count_cuts k ns bytes few = length_cuts (take k ns) bytes ∙ length-take-le k ns few
+-- one part more, behind the others
+pub cuts_push : (ns bytes part : List ℕ) → sum ns ≡ length bytes → cuts (ns ++ length part ∷ []) (bytes ++ part) ≡ cuts ns bytes ++ part ∷ []
+cuts_push [] [] part whole = ap (λ p. p ∷ []) (take_all (length part) part (omega arith))
+cuts_push [] (b ∷ bytes) part whole = absurd (omega arith)
+cuts_push (n ∷ ns) bytes part whole =
+    let h : n + sum ns ≡ length bytes = omega (arith, sum_cons n ns) in
+    let n_le : n ≤ length bytes = omega arith in
+    rw (take-append-le n bytes part n_le, drop-append-le n bytes part n_le, cuts_push ns (drop n bytes) part (omega (arith, length-drop n bytes)))
 
-pub sum_push : (ns : List ℕ) (n : ℕ) → sum_of (ns ++ n ∷ []) ≡ sum_of ns + n
-sum_push [] n = omega arith
-sum_push (m ∷ ns) n = ap (λ k. m + k) (sum_push ns n) ∙ sym (add_assoc m (sum_of ns) n)
+pub length_oldest : (ns bytes : List ℕ) → sum ns ≡ length bytes → length (oldest (cuts ns bytes)) ≡ get_or ns 0 0
+length_oldest [] bytes whole = refl
+length_oldest (n ∷ ns) bytes whole = length-take-le n bytes (omega (arith, sum_cons n ns))
 
--- only the bytes below the sum of the lengths count
-pub cuts_same : (ns s t : List ℕ) → take (sum_of ns) s ≡ take (sum_of ns) t → cuts ns s ≡ cuts ns t
-cuts_same [] s t e = refl
-cuts_same (n ∷ ns) s t e =
-    let first : take n s ≡ take n t =
-    sym (take-take n (n + sum_of ns) s (omega arith)) ∙ ap (take n) e ∙ take-take n (n + sum_of ns) t (omega arith) in
-    let others : take (sum_of ns) (drop n s) ≡ take (sum_of ns) (drop n t) =
-    sym (drop-take n (sum_of ns) s) ∙ ap (drop n) e ∙ drop-take n (sum_of ns) t in
-    ap (λ q. q ∷ cuts ns (drop n s)) first ∙ ap (λ qs. take n t ∷ qs) (cuts_same ns (drop n s) (drop n t) others)
+pub length_oldest_le : (ns bytes : List ℕ) → sum ns ≡ length bytes → length (oldest (cuts ns bytes)) ≤ length bytes
+length_oldest_le [] bytes whole = omega arith
+length_oldest_le (n ∷ ns) bytes whole = omega (arith, length_oldest (n ∷ ns) bytes whole, sum_cons n ns)
 
--- one part more lies right behind the others
-pub cuts_push : (ns : List ℕ) (n : ℕ) (s : List ℕ) → cuts (ns ++ n ∷ []) s ≡ cuts ns s ++ take n (drop (sum_of ns) s) ∷ []
-cuts_push [] n s = refl
-cuts_push (m ∷ ns) n s =
-    ap (λ qs. take m s ∷ qs) (cuts_push ns n (drop m s) ∙ ap (λ q. cuts ns (drop m s) ++ take n q ∷ []) (drop-drop (sum_of ns) m s))
+next_part :
+    (w : List ℕ) (ws : List (List ℕ)) (k : ℕ) (pending : Bool) (part : Bor (List ℕ)) → part.now ≡ drop k w → k ≤ length w - 1 → Next (work_left (w ∷ ws) k pending) (Some (Write part))
+next_part [] ws k pending part e h = ap length e ∙ length-drop k [] ∙ omega arith
+next_part (b ∷ bs) ws k pending part e h = (e, simp length-drop (omega arith))
 
-pub take_first : (k : ℕ) (ns : List ℕ) → 0 < k → k ≤ length ns → take k ns ≡ get_or ns 0 0 ∷ take (k - 1) (drop 1 ns)
-take_first zero ns some few = absurd (omega arith)
-take_first (suc k) [] some few = absurd (omega arith)
-take_first (suc k) (n ∷ ns) some few = ap (λ i. n ∷ take i ns) (omega arith)
+-- the bytes from k to the end of the first part are what the next turn has to offer
+pub next_is_rest :
+    (ns bytes : List ℕ) (n k : ℕ) (pending : Bool) (part : Bor (List ℕ)) → sum ns ≡ length bytes → k ≤ get_or ns 0 0 - 1 → slice_get ns 0 ≡ Some n → part.now ≡ take (n - k) (drop k bytes)
+    → Next (work_left (cuts ns bytes) k pending) (Some (Write part))
+next_is_rest [] bytes n k pending part whole along first is = absurd (let z : ◌≡◌ {A = ℕ} 0 1 = cc in omega arith)
+next_is_rest (m ∷ ns) bytes n k pending part whole along first is =
+    let same : m ≡ n = cc in
+    next_part (take m bytes) _ k pending part (rw (same, is) (between_is bytes k n)) (omega (arith, length_oldest (m ∷ ns) bytes whole))

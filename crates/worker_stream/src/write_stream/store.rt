@@ -1,20 +1,16 @@
-// The unfinished writes, oldest first: their bytes lie one after another from the start of `bytes`. Relies on nothing.
-ghost use Rattle.std.specs.Prelude.{◌≡◌, ◌-◌, ◌≤◌, length, take, slice_index};
-ghost use Rattle.worker_stream.specs.Lengths.{sum_of};
+// The unfinished writes, oldest first: their bytes lie one after another, and their lengths beside them. Relies on nothing.
+ghost use Rattle.std.specs.Prelude.{◌≡◌, ◌-◌, ◌≤◌, length, slice_index, sum};
+
+use arrayvec::ArrayVec;
 
 #[derive(Drop)]
 pub struct Store {
-    bytes: [u8; 4096],
-    lengths: [u16; 256],
-    used: usize,
-    count: usize,
+    bytes: ArrayVec<u8, 4096>,
+    lengths: ArrayVec<u16, 256>,
     progress: usize,
-    ghost sized: { length bytes ≡ 4096 },
-    ghost rows: { length lengths ≡ 256 },
-    ghost few: { count ≤ 256 },
-    ghost whole: { sum_of (take count lengths) ≡ used },
-    ghost along: { progress ≤ slice_index (take count lengths) 0 - 1 },
-    ghost within: { used ≤ 4096 },
+    ghost whole: { sum lengths.items ≡ length bytes.items },
+    ghost along: { progress ≤ slice_index lengths.items 0 - 1 },
+    ghost within: { length bytes.items ≤ 4096 },
 }
 
 pub mod changes;

@@ -1,5 +1,6 @@
 // The worker stream. Relies on `store`.
 ghost use Rattle.std.specs.Prelude.{◌+◌, ◌≤◌};
+ghost use Rattle.worker_stream.specs.StoreView.{used};
 
 use super::store::Store;
 use writer::Fault;
@@ -22,7 +23,7 @@ pub struct AsyncWriteStream<W> {
     flush_pending: bool,
     status: Status,
     cancelled: bool,
-    ghost fits: { store.used + write_budget ≤ 4096 },
+    ghost fits: { used store + write_budget ≤ 4096 },
 }
 
 pub mod calls;
