@@ -1,36 +1,39 @@
 -- Lists of bytes cut into parts whose lengths add up to theirs. Assumes nothing.
-use Rattle.std.proofs.Common.{◌≡◌, ℕ, suc, ◌+◌, ◌-◌, ◌≤◌, Bool, List, [], ◌∷◌, ◌++◌, length, get_or, take, drop, slice_get, Some, refl, ap, ◌∙◌, arith, length-drop, Bor}
+use Rattle.std.proofs.Common.{◌≡◌, ℕ, suc, ◌-◌, ◌≤◌, Bool, List, [], ◌∷◌, ◌++◌, length, get_or, take, drop, slice_get, Some, refl, ap, ◌∙◌, arith, length-drop, Bor}
 use Rattle.std.proofs.lemmas.List.{take_all, take-append-le, drop-append-le, length-take-le}
 use Rattle.std.proofs.lemmas.List.Sums.{sum_by-cons}
-use Rattle.std.specs.List.{sum}
 use Rattle.std.proofs.lemmas.Slice.{between_is}
+use Rattle.std.specs.List.{sum, sum_by}
 use Rattle.worker_stream.specs.declared.write_stream.job.Job.TheVariants.{Write}
+use Rattle.worker_stream.specs.StoreView.{cuts}
 use Rattle.worker_stream.specs.Work.{work_left, Next}
-use Rattle.worker_stream.specs.StoreView.{cuts, oldest}
 
-sum_cons : (n : ℕ) (ns : List ℕ) → sum (n ∷ ns) ≡ n + sum ns
-sum_cons n ns = sum_by-cons (λ k. k) n ns
+first_le : (n : ℕ) (ns bytes : List ℕ) → sum (n ∷ ns) ≡ length bytes → n ≤ length bytes
+first_le n ns bytes whole = omega (arith, sum_by-cons (λ k. k) n ns)
+
+others_whole : (n : ℕ) (ns bytes : List ℕ) → sum (n ∷ ns) ≡ length bytes → sum ns ≡ length (drop n bytes)
+others_whole n ns bytes whole = omega (arith, sum_by-cons (λ k. k) n ns, length-drop n bytes)
 
 pub length_cuts : (ns bytes : List ℕ) → length (cuts ns bytes) ≡ length ns
 length_cuts [] bytes = refl
 length_cuts (n ∷ ns) bytes = ap (λ k. suc k) (length_cuts ns (drop n bytes))
+
+pub used_cuts : (ns bytes : List ℕ) → sum ns ≡ length bytes → sum_by length (cuts ns bytes) ≡ length bytes
+used_cuts [] bytes whole = omega arith
+used_cuts (n ∷ ns) bytes whole =
+    let fits : n ≤ length bytes = first_le n ns bytes whole in
+    let others : sum_by length (cuts ns (drop n bytes)) ≡ length (drop n bytes) = used_cuts ns (drop n bytes) (others_whole n ns bytes whole) in
+    omega (arith, sum_by-cons length (take n bytes) (cuts ns (drop n bytes)), length-take-le n bytes fits, length-drop n bytes)
 
 -- one part more, behind the others
 pub cuts_push : (ns bytes part : List ℕ) → sum ns ≡ length bytes → cuts (ns ++ length part ∷ []) (bytes ++ part) ≡ cuts ns bytes ++ part ∷ []
 cuts_push [] [] part whole = ap (λ p. p ∷ []) (take_all (length part) part (omega arith))
 cuts_push [] (b ∷ bytes) part whole = absurd (omega arith)
 cuts_push (n ∷ ns) bytes part whole =
-    let h : n + sum ns ≡ length bytes = omega (arith, sum_cons n ns) in
-    let n_le : n ≤ length bytes = omega arith in
-    rw (take-append-le n bytes part n_le, drop-append-le n bytes part n_le, cuts_push ns (drop n bytes) part (omega (arith, length-drop n bytes)))
+    let fits : n ≤ length bytes = first_le n ns bytes whole in
+    rw (take-append-le n bytes part fits, drop-append-le n bytes part fits, cuts_push ns (drop n bytes) part (others_whole n ns bytes whole))
 
-pub length_oldest : (ns bytes : List ℕ) → sum ns ≡ length bytes → length (oldest (cuts ns bytes)) ≡ get_or ns 0 0
-length_oldest [] bytes whole = refl
-length_oldest (n ∷ ns) bytes whole = length-take-le n bytes (omega (arith, sum_cons n ns))
-
-pub length_oldest_le : (ns bytes : List ℕ) → sum ns ≡ length bytes → length (oldest (cuts ns bytes)) ≤ length bytes
-length_oldest_le [] bytes whole = omega arith
-length_oldest_le (n ∷ ns) bytes whole = omega (arith, length_oldest (n ∷ ns) bytes whole, sum_cons n ns)
+pub ruleset cut_laws = (length_cuts, used_cuts, cuts_push)
 
 next_part :
     (w : List ℕ) (ws : List (List ℕ)) (k : ℕ) (pending : Bool) (part : Bor (List ℕ)) → part.now ≡ drop k w → k ≤ length w - 1 → Next (work_left (w ∷ ws) k pending) (Some (Write part))
@@ -44,4 +47,4 @@ pub next_is_rest :
 next_is_rest [] bytes n k pending part whole along first is = absurd (let z : ◌≡◌ {A = ℕ} 0 1 = cc in omega arith)
 next_is_rest (m ∷ ns) bytes n k pending part whole along first is =
     let same : m ≡ n = cc in
-    next_part (take m bytes) _ k pending part (rw (same, is) (between_is bytes k n)) (omega (arith, length_oldest (m ∷ ns) bytes whole))
+    next_part (take m bytes) _ k pending part (rw (same, is) (between_is bytes k n)) (omega (arith, length-take-le m bytes (first_le m ns bytes whole)))

@@ -14,7 +14,8 @@ pub enum Status {
     Closed,
 }
 
-// An output stream over a writer: what it accepts waits in its store until host turns hand it on.
+// An output stream over a writer: what it accepts waits in its store until host turns hand it on. Its clauses say
+// `worker_view W.view`, and it has no `impl Model`, whose value cannot name the bound's view.
 #[derive(Drop)]
 pub struct AsyncWriteStream<W> {
     writer: W,

@@ -2,7 +2,6 @@
 ghost use Rattle.std.specs.Prelude.{◌≡◌, length, None, Ok, Err, MatchResult, OnOk};
 ghost use Rattle.stream.specs.Meaning.{Untouched, ready};
 ghost use Rattle.stream.specs.Questions.{answered};
-ghost use Rattle.worker_stream.specs.StoreView.{unfinished};
 ghost use Rattle.worker_stream.specs.WorkerCalls.{is_alive, refusal, no_fault, meaning, checked, accepts, wrote, flushed, flushing, cancel};
 ghost use Rattle.worker_stream.specs.WorkerOf.{worker_view};
 ghost use Rattle.worker_stream.specs.WorkerTurn.{TurnedOnce};

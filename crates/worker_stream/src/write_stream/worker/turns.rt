@@ -1,6 +1,6 @@
 // A host turn: at most one call of the writer. Relies on `store` and on the writer's laws.
 ghost use Rattle.std.specs.Prelude.{◌≡◌, ◌<◌, length};
-ghost use Rattle.worker_stream.specs.StoreView.{unfinished, rest};
+ghost use Rattle.worker_stream.specs.StoreView.{rest};
 ghost use Rattle.worker_stream.specs.WorkerOf.{worker_view};
 ghost use Rattle.worker_stream.specs.WorkerTurn.{Turned, Gives, finishes, fails, after_write, after_flush};
 ghost use Rattle.worker_stream.specs.WriterCall.{Called, Within};
@@ -40,7 +40,7 @@ impl<W: Writer> AsyncWriteStream<W> {
 
     // The oldest write is finished, and its whole length returns to the budget.
     fn finish(&mut self) -> Turn
-        requires { 0 < length (unfinished self.old.store) }
+        requires { 0 < length self.old.store.unfinished }
         ensures { Gives (finishes (worker_view W.view self.old)) result (worker_view W.view self.new) }
     {
         let n = self.store.pop();
@@ -58,7 +58,7 @@ impl<W: Writer> AsyncWriteStream<W> {
     }
 
     fn after_write(&mut self, answer: WriteAnswer) -> Turn
-        requires some { 0 < length (unfinished self.old.store) }
+        requires some { 0 < length self.old.store.unfinished }
         requires within { Within answer (length (rest self.old.store)) }
         ensures { Gives (after_write answer (length (rest self.old.store)) (worker_view W.view self.old)) result (worker_view W.view self.new) }
     {
