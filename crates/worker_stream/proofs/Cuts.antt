@@ -1,6 +1,6 @@
 -- Lists of bytes cut into parts whose lengths add up to theirs. Assumes nothing.
 use Rattle.std.proofs.Common.{◌≡◌, ℕ, suc, ◌-◌, ◌≤◌, Bool, List, [], ◌∷◌, ◌++◌, length, get_or, take, drop, slice_get, Some, refl, ap, ◌∙◌, arith, length-drop, Bor}
-use Rattle.std.proofs.lemmas.List.{take_all, take-append-le, drop-append-le, length-take-le}
+use Rattle.std.proofs.lemmas.List.{take_all, drop_all, take-append-le, drop-append-le, length-take-le}
 use Rattle.std.proofs.lemmas.List.Sums.{sum_by-cons}
 use Rattle.std.proofs.lemmas.Slice.{between_is}
 use Rattle.std.specs.List.{sum, sum_by}
@@ -37,7 +37,7 @@ pub ruleset cut_laws = (length_cuts, used_cuts, cuts_push)
 
 next_part :
     (w : List ℕ) (ws : List (List ℕ)) (k : ℕ) (pending : Bool) (part : Bor (List ℕ)) → part.now ≡ drop k w → k ≤ length w - 1 → Next (work_left (w ∷ ws) k pending) (Some (Write part))
-next_part [] ws k pending part e h = ap length e ∙ length-drop k [] ∙ omega arith
+next_part [] ws k pending part e h = e ∙ drop_all k [] (omega arith)
 next_part (b ∷ bs) ws k pending part e h = (e, simp length-drop (omega arith))
 
 -- the bytes from k to the end of the first part are what the next turn has to offer

@@ -1,8 +1,6 @@
 -- A permit of the worker stream holds over host turns. Assumes nothing.
 use Rattle.std.specs.Prelude.{◌≡◌, ℕ, zero, suc, ◌<◌, ◌≤◌, Bool, true, false, cond, ◌⊎◌, List, length, Ok, Err, ◌==◌, nat_lt, refl}
-use Rattle.std.proofs.Common.{sym, ◌∙◌, arith, length-drop, lt-ltb, le-leb, ltb-true}
-use Rattle.std.proofs.Math.Path.{ap, subst}
-use Rattle.std.proofs.Math.Logic.{inl, inr}
+use Rattle.std.proofs.Common.{sym, ap, ◌∙◌, subst, inl, inr, arith, length-drop, lt-ltb, le-leb, ltb-true}
 use Rattle.writer.specs.declared.answer.Fault.{Fault}
 use Rattle.writer.specs.declared.answer.Fault.TheVariants.{WriteZero}
 use Rattle.writer.specs.declared.answer.WriteAnswer.{WriteAnswer}

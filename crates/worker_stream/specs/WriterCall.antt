@@ -3,12 +3,12 @@
 --   Flushed    the writer was asked to flush, and answered so
 --   Called     which call was made for which work, and what it left
 --   Within     an answer to an offer of so many bytes took no more than that
-use Rattle.std.specs.Prelude.{◌≡◌, ℕ, ◌≤◌, List}
+use Rattle.std.specs.Prelude.{◌≡◌, ℕ, ◌≤◌, List, Some, None, Option}
 use Rattle.writer.specs.declared.answer.WriteAnswer.{WriteAnswer}
 use Rattle.writer.specs.declared.answer.WriteAnswer.TheVariants.{Took, NotYet, Failed}
 use Rattle.writer.specs.declared.answer.FlushAnswer.{FlushAnswer}
 use Rattle.worker_stream.specs.declared.write_stream.worker.turns.WriterCall.{WriterCall}
-use Rattle.worker_stream.specs.declared.write_stream.worker.turns.WriterCall.TheVariants.{NoCall, Empty, Write, Flush}
+use Rattle.worker_stream.specs.declared.write_stream.worker.turns.WriterCall.TheVariants.{Empty, Write, Flush}
 use Rattle.worker_stream.specs.WorkerView.{WorkerView, with_writer}
 use Rattle.worker_stream.specs.Work.{Work, finish_empty, offer, flush_writer, nothing, work_left}
 
@@ -33,11 +33,11 @@ module _ {V : Type 0} (writes : V → List ℕ → WriteAnswer → V → Type 0)
     pub work : left_to_do s ≡ work_is
     pub left : t ≡ s
 
-  abbrev pub Called : WriterCall → WorkerView V → WorkerView V → Type 0
-  Called NoCall s t = Uncalled nothing s t
-  Called Empty s t = Uncalled finish_empty s t
-  Called (Write answer) s t = Wrote answer s t
-  Called (Flush answer) s t = Flushed answer s t
+  abbrev pub Called : Option WriterCall → WorkerView V → WorkerView V → Type 0
+  Called None s t = Uncalled nothing s t
+  Called (Some Empty) s t = Uncalled finish_empty s t
+  Called (Some (Write answer)) s t = Wrote answer s t
+  Called (Some (Flush answer)) s t = Flushed answer s t
 
 abbrev pub Within : WriteAnswer → ℕ → Type 0
 Within (Took n) offered = n ≤ offered

@@ -1,11 +1,15 @@
-// The unfinished writes, oldest first: their bytes lie one after another, and their lengths beside them. Relies on nothing.
+// The unfinished writes, oldest first: their bytes lie one after another, and their lengths beside them. Relies on the limits.
 use arrayvec::ArrayVec;
 use std::marker::Model;
+use stream::limits::MAX_BUDGET;
+
+// The most unfinished writes at a time. Their bytes are never more than a budget.
+const MAX_WRITES: usize = 256;
 
 #[derive(Drop)]
 pub struct Store {
-    bytes: ArrayVec<u8, 4096>,
-    lengths: ArrayVec<u16, 256>,
+    bytes: ArrayVec<u8, MAX_BUDGET>,
+    lengths: ArrayVec<u16, MAX_WRITES>,
     progress: usize,
 }
 

@@ -1,5 +1,5 @@
 // Queueing a write, offering its rest, and letting it go. Relies on `job`.
-ghost use Rattle.std.specs.Prelude.{◌≡◌, ◌+◌, ◌<◌, ◌≤◌, length};
+ghost use Rattle.std.specs.Prelude.{◌≡◌, ◌+◌, ◌<◌, ◌≤◌, length, nat_le};
 ghost use Rattle.worker_stream.specs.StoreView.{empty, oldest, rest, used, queued, advanced, popped};
 ghost use Rattle.worker_stream.specs.Work.{work_left, Next};
 
@@ -24,6 +24,14 @@ impl Store {
         ensures { result ≡ length self.now.unfinished }
     {
         self.lengths.len()
+    }
+
+    // Whether there is no place for another write.
+    #[tactic(auto, using(crate::proofs::Cuts::cut_laws))]
+    pub(crate) fn is_full(&self) -> bool
+        ensures { result ≡ nat_le 256 (length self.now.unfinished) }
+    {
+        self.lengths.is_full()
     }
 
     // How much of the oldest write the writer has not taken yet.

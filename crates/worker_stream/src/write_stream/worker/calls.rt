@@ -2,7 +2,7 @@
 ghost use Rattle.std.specs.Prelude.{◌≡◌, length, None, Ok, Err, MatchResult, OnOk};
 ghost use Rattle.stream.specs.Meaning.{Untouched, ready};
 ghost use Rattle.stream.specs.Questions.{answered};
-ghost use Rattle.worker_stream.specs.WorkerCalls.{is_alive, refusal, no_fault, meaning, checked, accepts, wrote, flushed, flushing, cancel};
+ghost use Rattle.worker_stream.specs.WorkerCalls.{is_alive, permitted, refusal, no_fault, meaning, checked, accepts, wrote, flushed, flushing, cancel};
 ghost use Rattle.worker_stream.specs.WorkerOf.{worker_view};
 ghost use Rattle.worker_stream.specs.WorkerTurn.{TurnedOnce};
 ghost use Rattle.worker_stream.specs.WorkerView.{WorkerView, fresh, with_status};
@@ -63,7 +63,18 @@ impl<W: Writer> AsyncWriteStream<W> {
     pub(crate) fn is_alive(&self) -> bool
         ensures { result ≡ is_alive self.now.status }
     {
-        matches!(self.status, Status::Alive)
+        self.status == Status::Alive
+    }
+
+    // What check_write permits where it is not refused.
+    fn permitted(&self) -> usize
+        ensures { result ≡ permitted (worker_view W.view self.now) }
+    {
+        if self.flush_pending || self.store.is_full() {
+            0
+        } else {
+            self.write_budget
+        }
     }
 
     // Is no fault stored? A stored one is taken away.
@@ -85,7 +96,7 @@ impl<W: Writer> AsyncWriteStream<W> {
         ensures passed { OnOk result ((self.old.status ≡ Alive) × (self.new ≡ self.old)) }
     {
         self.take_fault()?;
-        if let Status::Closed = self.status {
+        if self.status == Status::Closed {
             return Err(StreamError::Closed);
         }
         Ok(())
@@ -96,12 +107,7 @@ impl<W: Writer> Pollable for AsyncWriteStream<W> {
     ghost pollable = { λ s. ready (meaning (worker_view W.Writer.view s)) };
 
     fn ready(&self) -> bool {
-        match self.status {
-            Status::Alive => {
-                !self.flush_pending && self.store.len() < 256 && self.write_budget > 0
-            }
-            Status::Faulted(_) | Status::Closed => true,
-        }
+        !self.is_alive() || self.permitted() > 0
     }
 }
 
@@ -136,10 +142,7 @@ impl<W: Writer> OutputStream for AsyncWriteStream<W> {
 
     fn check_write(&mut self) -> Result<usize, StreamError> {
         self.check_error()?;
-        if self.flush_pending || self.store.len() >= 256 {
-            return Ok(0);
-        }
-        Ok(self.write_budget)
+        Ok(self.permitted())
     }
 
     fn write(&mut self, bytes: &[u8]) -> Result<(), StreamError> {
@@ -150,7 +153,7 @@ impl<W: Writer> OutputStream for AsyncWriteStream<W> {
         if bytes.len() > self.write_budget {
             return Err(StreamError::Trap(Trap::OverBudget));
         }
-        if self.store.len() >= 256 {
+        if self.store.is_full() {
             return Err(StreamError::Trap(Trap::TooManyWrites));
         }
         self.store.push(bytes);

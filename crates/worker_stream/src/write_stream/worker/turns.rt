@@ -10,10 +10,9 @@ use super::{AsyncWriteStream, Status};
 use crate::write_stream::job::{Job, Turn};
 use writer::{Fault, FlushAnswer, WriteAnswer, Writer};
 
-// What the one call of the writer answered, if there was one.
+// What the one call of the writer answered.
 #[derive(Clone, Copy)]
 pub enum WriterCall {
-    NoCall,
     // The oldest write is empty, and needs no call.
     Empty,
     Write(WriteAnswer),
@@ -22,20 +21,15 @@ pub enum WriterCall {
 
 impl<W: Writer> AsyncWriteStream<W> {
     // Lends the store and the writer to one call: the oldest write's whole rest is offered as one part of the store.
-    fn call_writer(&mut self) -> WriterCall
+    fn call_writer(&mut self) -> Option<WriterCall>
         ensures called { Called W.writes W.flushes result (worker_view W.view self.old) (worker_view W.view self.new) }
         ensures store { self.new.store ≡ self.old.store }
     {
-        match self.store.next_job(self.flush_pending) {
-            None => WriterCall::NoCall,
-            Some(Job::Flush) => WriterCall::Flush(self.writer.flush()),
-            Some(Job::Write(part)) => {
-                if part.is_empty() {
-                    return WriterCall::Empty;
-                }
-                WriterCall::Write(self.writer.write(part))
-            }
-        }
+        Some(match self.store.next_job(self.flush_pending)? {
+            Job::Flush => WriterCall::Flush(self.writer.flush()),
+            Job::Write(part) if part.is_empty() => WriterCall::Empty,
+            Job::Write(part) => WriterCall::Write(self.writer.write(part)),
+        })
     }
 
     // The oldest write is finished, and its whole length returns to the budget.
@@ -65,13 +59,9 @@ impl<W: Writer> AsyncWriteStream<W> {
         match answer {
             WriteAnswer::NotYet => Turn::NotYet,
             WriteAnswer::Failed(fault) => self.fail(fault),
+            WriteAnswer::Took(0) => self.fail(Fault::WriteZero),
+            WriteAnswer::Took(n) if n == self.store.rest_len() => self.finish(),
             WriteAnswer::Took(n) => {
-                if n == 0 {
-                    return self.fail(Fault::WriteZero);
-                }
-                if n == self.store.rest_len() {
-                    return self.finish();
-                }
                 self.store.advance(n);
                 Turn::Moved(n)
             }
@@ -99,10 +89,10 @@ impl<W: Writer> AsyncWriteStream<W> {
             return Turn::Stopped;
         }
         match self.call_writer() {
-            WriterCall::NoCall => Turn::Idle,
-            WriterCall::Empty => self.finish(),
-            WriterCall::Write(answer) => self.after_write(answer),
-            WriterCall::Flush(answer) => self.after_flush(answer),
+            None => Turn::Idle,
+            Some(WriterCall::Empty) => self.finish(),
+            Some(WriterCall::Write(answer)) => self.after_write(answer),
+            Some(WriterCall::Flush(answer)) => self.after_flush(answer),
         }
     }
 }
