@@ -1,13 +1,9 @@
-// What a handle is and what it answers. Relies on `stream` for the error that it passes on.
-ghost use Rattle.std.specs.Prelude.{◌≡◌};
-ghost use Rattle.handles.specs.Refusals.{handle_number};
-ghost use Rattle.handles.specs.declared.handle.HandleError.TheVariants.{Stream};
-
-use stream::StreamError;
+// What a handle is and what its polls answer. Relies on nothing.
 
 // The state of a handle.
-#[derive(Clone, Copy, PartialEq, Eq, Debug)]
+#[derive(Clone, Copy, PartialEq, Eq, Debug, Default)]
 pub enum HandleState {
+    #[default]
     Ready,
     // In line for the lock, or granted it and not polled since.
     Locking,
@@ -18,8 +14,8 @@ pub enum HandleState {
     Dropped,
 }
 
-// A handle: its state, and its flushing mark, set while it waits for a flush that it began.
-#[derive(Clone, Copy, PartialEq, Eq, Debug)]
+// A handle, just made Ready with a clear mark: its state, and its flushing mark, set while it waits for a flush that it began.
+#[derive(Clone, Copy, PartialEq, Eq, Debug, Default)]
 pub struct StdoutHandle {
     pub state: HandleState,
     pub mark: bool,
@@ -30,32 +26,4 @@ pub struct StdoutHandle {
 pub enum Poll<T> {
     Ready(T),
     Pending,
-}
-
-// Why a handle call is refused.
-#[derive(Clone, Copy, PartialEq, Eq, Debug)]
-pub enum HandleError {
-    // The number is not below the count of handles, or that handle was dropped.
-    NoSuchHandle,
-    Stream(StreamError),
-}
-
-impl From<StreamError> for HandleError {
-    ghost from_gives = { λ e r. r ≡ Stream e };
-
-    fn from(e: StreamError) -> HandleError {
-        HandleError::Stream(e)
-    }
-}
-
-impl HandleError {
-    // The refusal's number.
-    pub fn code(&self) -> u8
-        ensures { result ≡ handle_number self.now }
-    {
-        match *self {
-            HandleError::NoSuchHandle => 15,
-            HandleError::Stream(e) => e.code(),
-        }
-    }
 }

@@ -6,12 +6,11 @@ use Rattle.stream.specs.declared.error.StreamError.TheVariants.{LastOperationFai
 use Rattle.worker_stream.specs.declared.write_stream.job.Turn.{Turn}
 use Rattle.worker_stream.specs.declared.write_stream.job.Turn.TheVariants.{Stopped as TurnStopped, Finished as TurnFinished, Moved as TurnMoved, Flushed as TurnFlushed, Idle as TurnIdle, NotYet as TurnNotYet, Failed as TurnFailed}
 use Rattle.stream.specs.Refusals.{number}
-use Rattle.handles.specs.declared.direct.DirectError.{DirectError}
-use Rattle.handles.specs.declared.direct.DirectError.TheVariants.{LockHeld, Stream as DirectStream}
-use Rattle.handles.specs.declared.handle.HandleError.{HandleError}
-use Rattle.handles.specs.declared.handle.HandleError.TheVariants.{NoSuchHandle, Stream as HandleStream}
+use Rattle.handles.specs.declared.error.CallError.{CallError}
+use Rattle.handles.specs.declared.error.CallError.TheVariants.{Refused as Question, Stream}
+use Rattle.handles.specs.Errors.{DirectError, HandleError}
 use Rattle.handles.specs.declared.handle.Poll.TheVariants.{Ready, Pending}
-use Rattle.handles.specs.Refusals.{direct_number, handle_number}
+use Rattle.handles.specs.Refusals.{lock_held_number, no_such_handle_number}
 use Rattle.calls.specs.declared.call.Answer.{Answer as Reply}
 use Rattle.calls.specs.declared.call.Answer.TheVariants.{Write, CheckWrite, Flush, Cancel, Turn as Turned, PollWrite, PollFlush, DropHandle}
 use Rattle.answers.specs.declared.answer.Answer.{Answer}
@@ -23,13 +22,15 @@ refused_by (LastOperationFailed f) n = Fault f
 refused_by Closed n = Refused n
 refused_by (Trap e) n = Refused n
 
+abbrev pub call_refused : {R : Type 0} → (R → ℕ) → CallError R → Answer
+call_refused refusal_number (Question refusal) = Refused (refusal_number refusal)
+call_refused refusal_number (Stream e) = refused_by e (number e)
+
 abbrev pub direct_refused : DirectError → Answer
-direct_refused LockHeld = Refused (direct_number LockHeld)
-direct_refused (DirectStream e) = refused_by e (number e)
+direct_refused e = call_refused lock_held_number e
 
 abbrev pub handle_refused : HandleError → Answer
-handle_refused NoSuchHandle = Refused (handle_number NoSuchHandle)
-handle_refused (HandleStream e) = refused_by e (number e)
+handle_refused e = call_refused no_such_handle_number e
 
 abbrev pub turn_printed : Turn → Answer
 turn_printed TurnStopped = Stopped

@@ -6,7 +6,7 @@ use mathlib.Core.List.{flatten}
 use lib.ListN.{length-map}
 use Rattle.worker_stream.specs.StoreView.{oldest}
 use Rattle.worker_stream.specs.declared.write_stream.job.Turn.{Turn}
-use Rattle.handles.specs.declared.handle.HandleError.{HandleError}
+use Rattle.handles.specs.Errors.{HandleError}
 use Rattle.handles.specs.declared.handle.Poll.TheVariants.{Ready as Answer}
 use Rattle.promises.specs.Events.{Event, write, check, flush, cancel, turn, handle_write, handle_flush, handle_drop}
 use Rattle.promises.specs.History.{History, ◌▷◌, accepted_by, accepted, on_turn, finished_in, finished_lengths, moved_in, moved, finished_writes, unfinished_writes, Call, writes, flushes}

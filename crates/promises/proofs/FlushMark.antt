@@ -9,7 +9,7 @@ use Rattle.worker_stream.specs.declared.write_stream.job.Turn.{Turn}
 use Rattle.worker_stream.specs.declared.write_stream.worker.Status.TheVariants.{Alive}
 use Rattle.handles.specs.declared.handle.HandleState.{HandleState}
 use Rattle.handles.specs.declared.handle.HandleState.TheVariants.{Ready, Locking, Locked, Closed}
-use Rattle.handles.specs.declared.handle.HandleError.{HandleError}
+use Rattle.handles.specs.Errors.{HandleError}
 use Rattle.handles.specs.declared.handle.Poll.TheVariants.{Ready as Answer, Pending}
 use Rattle.promises.specs.SharedView.{HandleView, dropped, without}
 use Rattle.promises.specs.Events.{Event, write, check, flush, cancel, turn, handle_write, handle_flush, handle_drop}

@@ -5,7 +5,7 @@ use mathlib.Core.Path.{subst⁻¹}
 use Rattle.worker_stream.specs.declared.write_stream.job.Turn.{Turn}
 use Rattle.handles.specs.declared.handle.HandleState.{HandleState}
 use Rattle.handles.specs.declared.handle.HandleState.TheVariants.{Ready, Locking, Locked, Closed}
-use Rattle.handles.specs.declared.handle.HandleError.{HandleError}
+use Rattle.handles.specs.Errors.{HandleError}
 use Rattle.promises.specs.SharedView.{HandleView, dropped as dropped_view, without}
 use Rattle.promises.specs.Events.{Event, write, check, flush, cancel, turn, handle_write, handle_flush, handle_drop}
 use Rattle.promises.specs.History.{History, ◌▷◌, Call, writes, flushes, Reply, not_yet, answered, Asked, polled, dropped, nothing, asked_in, Ends, Unanswered, Repeats, Patient, NoCancel}

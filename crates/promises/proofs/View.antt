@@ -16,13 +16,12 @@ use Rattle.stream.specs.Questions.{answered}
 use Rattle.stream.specs.Meaning.{Meaning, faulted, closed, open_with, permit, flush_answer}
 use Rattle.worker_stream.specs.WorkerView.{WorkerView, with_pending, with_status, with_cancelled, fresh as stream_just_made}
 use Rattle.worker_stream.specs.WorkerCalls.{meaning, meaning_of, checked, accepts, wrote, flushed, accept, left_by, write_refusal}
-use Rattle.handles.specs.declared.direct.DirectError.TheVariants.{LockHeld, Stream as DirectStream}
 use Rattle.handles.specs.declared.handle.HandleState.{HandleState}
 use Rattle.handles.specs.declared.handle.HandleState.TheVariants.{Ready, Locking, Locked, Closed, Dropped}
 use Rattle.handles.specs.declared.handle.Poll.{Poll}
 use Rattle.handles.specs.declared.handle.Poll.TheVariants.{Ready as Answer, Pending}
-use Rattle.handles.specs.declared.handle.HandleError.{HandleError}
-use Rattle.handles.specs.declared.handle.HandleError.TheVariants.{NoSuchHandle, Stream as StreamFailed}
+use Rattle.handles.specs.Errors.{HandleError, lock_held, no_such_handle}
+use Rattle.handles.specs.declared.error.CallError.TheVariants.{Stream as StreamFailed}
 use Rattle.promises.specs.SharedView.{HandleView, SharedView, dropped, handle, holds, joins, without, asked, waits, hands_on, leaves}
 use Rattle.promises.specs.Polls.{Outcome, outcome, by_state, with_lock, write_by, write_some, poll_write, second_by, second_stage, first_by, first_stage, poll_flush, drop_handle}
 use Rattle.promises.specs.Events.{Event, write, check, flush, cancel, turn, handle_write, handle_flush, handle_drop}
@@ -106,8 +105,8 @@ pub data Way (s : Stream) (l : Lock) : Event → Stream → Lock → Type 0 wher
   flushes_directly : l.queue ≡ [] → s.status ≡ Alive → Way s l (flush (Ok tt)) (with_pending true s) l
   cancels : Way s l cancel (with_cancelled true s) l
   turns : {word : Turn} {t : Stream} → TurnWay s word t → Way s l (turn word) t l
-  no_handle : (i : ℕ) (a : Call) → state_of i l ≡ Dropped → Way s l (error_event NoSuchHandle i a) s l
-  no_handle_to_drop : (i : ℕ) → state_of i l ≡ Dropped → Way s l (handle_drop i (Err NoSuchHandle)) s l
+  no_handle : (i : ℕ) (a : Call) → state_of i l ≡ Dropped → Way s l (error_event no_such_handle i a) s l
+  no_handle_to_drop : (i : ℕ) → state_of i l ≡ Dropped → Way s l (handle_drop i (Err no_such_handle)) s l
   drops : (i : ℕ) → ¬ (state_of i l ≡ Dropped) → Way s l (handle_drop i (Ok tt)) s (put i dropped (without i l.queue) l)
   already_closed : (i : ℕ) (a : Call) → state_of i l ≡ Closed → Way s l (ends_event i a) s l
   writes_nothing : (i : ℕ) → Open i l → Way s l (handle_write i [] (Ok (Answer 0))) s l
@@ -160,22 +159,22 @@ module _ {V : Type 0} (taken : V → List ℕ) (covered : V → ℕ) where
     str = s.stream
 
     direct_write_way : (q : List ℕ) (bytes : List ℕ) (o : Option StreamError) → s.queue ≡ q → WriteWhy str bytes o → Leads (write bytes) (direct q (answered o tt) (left_by o str (accept bytes str)) s)
-    direct_write_way (x ∷ q) bytes o hq w = passes (write bytes (Err LockHeld)) tt
+    direct_write_way (x ∷ q) bytes o hq w = passes (write bytes (Err lock_held)) tt
     direct_write_way [] bytes o hq (accepts_it a p f r) = writes_directly bytes hq a p f r
-    direct_write_way [] bytes o hq (finds_fault f hf) = tells_fault (write bytes (Err (DirectStream (LastOperationFailed f)))) f tt hq hf
-    direct_write_way [] bytes o hq finds_closed = passes (write bytes (Err (DirectStream ClosedError))) tt
-    direct_write_way [] bytes o hq (is_trap e) = passes (write bytes (Err (DirectStream (Trap e)))) tt
+    direct_write_way [] bytes o hq (finds_fault f hf) = tells_fault (write bytes (Err (StreamFailed (LastOperationFailed f)))) f tt hq hf
+    direct_write_way [] bytes o hq finds_closed = passes (write bytes (Err (StreamFailed ClosedError))) tt
+    direct_write_way [] bytes o hq (is_trap e) = passes (write bytes (Err (StreamFailed (Trap e)))) tt
 
     direct_check_way : (q : List ℕ) (m : Meaning) → s.queue ≡ q → meaning str ≡ m → Leads check (direct q (permit m) (checked str) s)
-    direct_check_way (x ∷ q) m hq hm = passes (check (Err LockHeld)) tt
-    direct_check_way [] (faulted f) hq hm = let h = faulted_status str f hm in leaves_stream (checked str) (with_status ClosedStatus str) (checked_faulted str f h) (tells_fault (check (Err (DirectStream (LastOperationFailed f)))) f tt hq h)
-    direct_check_way [] closed hq hm = leaves_stream (checked str) str (checked_closed str (closed_status str hm)) (passes (check (Err (DirectStream ClosedError))) tt)
+    direct_check_way (x ∷ q) m hq hm = passes (check (Err lock_held)) tt
+    direct_check_way [] (faulted f) hq hm = let h = faulted_status str f hm in leaves_stream (checked str) (with_status ClosedStatus str) (checked_faulted str f h) (tells_fault (check (Err (StreamFailed (LastOperationFailed f)))) f tt hq h)
+    direct_check_way [] closed hq hm = leaves_stream (checked str) str (checked_closed str (closed_status str hm)) (passes (check (Err (StreamFailed ClosedError))) tt)
     direct_check_way [] (open_with n) hq hm = leaves_stream (checked str) str (checked_open str (alive_when_open str n hm)) (passes (check (Ok n)) tt)
 
     direct_flush_way : (q : List ℕ) (m : Meaning) → s.queue ≡ q → meaning str ≡ m → Leads flush (direct q (flush_answer m) (flushed str) s)
-    direct_flush_way (x ∷ q) m hq hm = passes (flush (Err LockHeld)) tt
-    direct_flush_way [] (faulted f) hq hm = let h = faulted_status str f hm in leaves_stream (flushed str) (with_status ClosedStatus str) (flushed_faulted str f h) (tells_fault (flush (Err (DirectStream (LastOperationFailed f)))) f tt hq h)
-    direct_flush_way [] closed hq hm = leaves_stream (flushed str) str (flushed_closed str (closed_status str hm)) (passes (flush (Err (DirectStream ClosedError))) tt)
+    direct_flush_way (x ∷ q) m hq hm = passes (flush (Err lock_held)) tt
+    direct_flush_way [] (faulted f) hq hm = let h = faulted_status str f hm in leaves_stream (flushed str) (with_status ClosedStatus str) (flushed_faulted str f h) (tells_fault (flush (Err (StreamFailed (LastOperationFailed f)))) f tt hq h)
+    direct_flush_way [] closed hq hm = leaves_stream (flushed str) str (flushed_closed str (closed_status str hm)) (passes (flush (Err (StreamFailed ClosedError))) tt)
     direct_flush_way [] (open_with n) hq hm = let h = alive_when_open str n hm in leaves_stream (flushed str) (with_pending true str) (flushed_open str h) (flushes_directly hq h)
 
     drop_way : (i : ℕ) (st : HandleState) → (handle i s).state ≡ st → Leads (handle_drop i) (by_state st s (outcome (Ok tt) (leaves i s)) (outcome (Ok tt) (leaves i s)))

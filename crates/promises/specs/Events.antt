@@ -2,8 +2,7 @@
 --   Event   direct calls first, then the host's, then those of a handle by its number
 use Rattle.std.specs.Prelude.{ℕ, List, Result}
 use Rattle.worker_stream.specs.declared.write_stream.job.Turn.{Turn}
-use Rattle.handles.specs.declared.direct.DirectError.{DirectError}
-use Rattle.handles.specs.declared.handle.HandleError.{HandleError}
+use Rattle.handles.specs.Errors.{DirectError, HandleError}
 use Rattle.handles.specs.declared.handle.Poll.{Poll}
 
 pub data Event : Type 0 where

@@ -22,7 +22,7 @@ use Rattle.std.specs.Prelude.{◌≡◌, ℕ, zero, suc, ◌+◌, cond, ◌⊎�
 use Rattle.worker_stream.specs.StoreView.{oldest}
 use Rattle.worker_stream.specs.declared.write_stream.job.Turn.{Turn}
 use Rattle.worker_stream.specs.declared.write_stream.job.Turn.TheVariants.{Stopped, Finished, Moved, Flushed, Idle, NotYet, Failed}
-use Rattle.handles.specs.declared.handle.HandleError.{HandleError}
+use Rattle.handles.specs.Errors.{HandleError}
 use Rattle.handles.specs.declared.handle.Poll.{Poll}
 use Rattle.handles.specs.declared.handle.Poll.TheVariants.{Ready as Answer, Pending}
 use Rattle.promises.specs.Events.{Event, write, check, flush, cancel, turn, handle_write, handle_flush, handle_drop}

@@ -16,8 +16,8 @@ use Rattle.handles.specs.declared.handle.HandleState.{HandleState}
 use Rattle.handles.specs.declared.handle.HandleState.TheVariants.{Ready, Locking, Locked, Closed, Dropped}
 use Rattle.handles.specs.declared.handle.Poll.{Poll}
 use Rattle.handles.specs.declared.handle.Poll.TheVariants.{Ready as Answer, Pending}
-use Rattle.handles.specs.declared.handle.HandleError.{HandleError}
-use Rattle.handles.specs.declared.handle.HandleError.TheVariants.{NoSuchHandle, Stream}
+use Rattle.handles.specs.Errors.{HandleError, no_such_handle}
+use Rattle.handles.specs.declared.error.CallError.TheVariants.{Stream}
 use Rattle.promises.specs.SharedView.{SharedView, handle, holds, asked, waits, hands_on, leaves}
 
 pub record Outcome (R S : Type 0) : Type 0 where
@@ -32,7 +32,7 @@ module _ {S : Type 0} where
   outcome r s = record { answer = r; left = s }
 
   abbrev pub by_state : {X : Type 0} → HandleState → SharedView S → Outcome (HandleResult X) S → Outcome (HandleResult X) S → Outcome (HandleResult X) S
-  by_state Dropped s when_closed when_open = outcome (Err NoSuchHandle) s
+  by_state Dropped s when_closed when_open = outcome (Err no_such_handle) s
   by_state Closed s when_closed when_open = when_closed
   by_state Ready s when_closed when_open = when_open
   by_state Locking s when_closed when_open = when_open

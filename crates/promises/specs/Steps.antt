@@ -15,8 +15,8 @@ use Rattle.worker_stream.specs.WorkerCalls.{meaning, checked, accepts, wrote, fl
 use Rattle.worker_stream.specs.WorkerTurn.{Turned}
 use Rattle.stream.specs.declared.error.StreamError.{StreamError}
 use Rattle.worker_stream.specs.declared.write_stream.job.Turn.{Turn}
-use Rattle.handles.specs.declared.direct.DirectError.{DirectError}
-use Rattle.handles.specs.declared.direct.DirectError.TheVariants.{LockHeld, Stream}
+use Rattle.handles.specs.Errors.{DirectError, lock_held}
+use Rattle.handles.specs.declared.error.CallError.TheVariants.{Stream}
 use Rattle.handles.specs.declared.handle.HandleState.{HandleState}
 use Rattle.promises.specs.SharedView.{SharedView, handle, with_stream}
 use Rattle.promises.specs.Polls.{Outcome, outcome, poll_write, poll_flush, drop_handle}
@@ -29,7 +29,7 @@ passed_on (Err e) = Err (Stream e)
 module _ {S : Type 0} where
   abbrev pub direct : {X : Type 0} → List ℕ → Result X StreamError → S → SharedView S → Outcome (Result X DirectError) S
   direct [] answer left s = outcome (passed_on answer) (with_stream left s)
-  direct (holder ∷ line) answer left s = outcome (Err LockHeld) s
+  direct (holder ∷ line) answer left s = outcome (Err lock_held) s
 
   abbrev pub direct_write : (S → List ℕ → Result (Unit {0}) StreamError) → (S → List ℕ → S) → List ℕ → SharedView S → Outcome (Result (Unit {0}) DirectError) S
   direct_write accepts wrote bytes s = direct s.queue (accepts s.stream bytes) (wrote s.stream bytes) s

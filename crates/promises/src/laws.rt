@@ -5,23 +5,17 @@ ghost use Rattle.promises.specs.Promises.{Promises};
 use writer::Writer;
 
 // Conservation, done means flushed and bounded waiting, for every history of a stream over W.
-pub fn promises_hold<W: Writer>() -> u8
+pub fn promises_hold<W: Writer>()
     ensures { Promises W.taken W.covered W.writes W.flushes }
-{
-    0
-}
+{}
 
 // All that bounded waiting asks can be met: a lawful writer, patient handles, and a write that waits through a full round.
-pub fn a_waiting_run_exists() -> u8
+pub fn a_waiting_run_exists()
     ensures lawful { Lawful }
     ensures waiting { WaitingRun }
-{
-    0
-}
+{}
 
 // A flush that is done has covered what was accepted before its first poll; what was accepted later need not be covered.
-pub fn a_flush_counts_from_its_first_poll() -> u8
+pub fn a_flush_counts_from_its_first_poll()
     ensures { FirstPollCounts }
-{
-    0
-}
+{}

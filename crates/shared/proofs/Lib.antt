@@ -1,5 +1,4 @@
-pub mod Lines
-pub mod Tables
+pub mod Queued
 pub mod Operating
 pub mod Asked
 pub mod Granted

@@ -1,5 +1,5 @@
 -- What a poll meets of a stream, by its meaning. Assumes nothing.
-use Rattle.std.proofs.Common.{◌≡◌, ℕ, zero, suc, ◌-◌, ◌<◌, ◌≤◌, min, false, List, length, take, Ok, Err, Result, sym, refl, ap, ◌∙◌, subst, arith, ltb-false}
+use Rattle.std.proofs.Common.{◌≡◌, ℕ, zero, suc, ◌<◌, ◌≤◌, min, false, cond, List, length, take, Ok, Err, Result, sym, refl, ap, ◌∙◌, subst, arith, lt-ltb, ltb-false, length-take}
 use native.Mathlib.Decide.{dec_le}
 use Rattle.std.proofs.lemmas.List.{take_all}
 use Rattle.stream.specs.declared.error.StreamError.{StreamError}
@@ -7,43 +7,71 @@ use Rattle.stream.specs.declared.error.StreamError.TheVariants.{LastOperationFai
 use Rattle.stream.specs.Meaning.{Meaning, faulted, closed, open_with, permit, ready}
 use Rattle.stream.specs.HostTurns.{HostTurns, none}
 use Rattle.stream.specs.StreamRules.{Honoured, PermitRule}
+use Rattle.stream.specs.WritePermitted.{counted, first_answer, permitted_answer, first_left, permitted_left}
+use Rattle.handles.specs.declared.handle.Poll.{Poll}
 use Rattle.handles.specs.declared.handle.Poll.TheVariants.{Ready, Pending}
 use Rattle.shared.specs.Operations.{StageOperation, WriteOperation}
 
+impossible : {P : Type 0} → ◌≡◌ {A = ℕ} 0 1 → P
+impossible z = absurd (omega arith)
+
 pub waits_unready : {S : Type 0} (call : S → S) (m : Meaning) (s : S) → ready m ≡ false → StageOperation call m s (Ok Pending) s
-waits_unready call (faulted f) s e = absurd (let z : ◌≡◌ {A = ℕ} 0 1 = cc in omega arith)
-waits_unready call closed s e = absurd (let z : ◌≡◌ {A = ℕ} 0 1 = cc in omega arith)
+waits_unready call (faulted f) s e = impossible (cc)
+waits_unready call closed s e = impossible (cc)
 waits_unready call (open_with zero) s e = record { told = refl; after = refl }
 waits_unready call (open_with (suc n)) s e = absurd (omega (arith, ltb-false 0 (suc n) e))
 
-pub permitted : (m : Meaning) (n : ℕ) → permit m ≡ Ok n → m ≡ open_with n
-permitted (faulted f) n e = absurd (let z : ◌≡◌ {A = ℕ} 0 1 = cc in omega arith)
-permitted closed n e = absurd (let z : ◌≡◌ {A = ℕ} 0 1 = cc in omega arith)
-permitted (open_with k) n e = cc
-
-pub first_bytes : (k : ℕ) (bytes : List ℕ) → take (min k (length bytes) - 0) bytes ≡ take k bytes
+first_bytes : (k : ℕ) (bytes : List ℕ) → take (min k (length bytes)) bytes ≡ take k bytes
 first_bytes k bytes = elim (dec_le k (length bytes)) [ yes h ↦ ap (λ n. take n bytes) (omega arith) | no h ↦ (ap (λ n. take n bytes) (omega arith) ∙ take_all (length bytes) bytes (omega arith)) ∙ sym (take_all k bytes (omega arith)) ]
 
-module _ {S : Type 0} (checked : S → S) (wrote : S → List ℕ → S) where
-  pub waits_unpermitted : (m : Meaning) (n : ℕ) (bytes : List ℕ) (s t : S) → permit m ≡ Ok n → n ≡ 0 → t ≡ s → WriteOperation checked wrote m bytes s (Ok Pending) t
-  waits_unpermitted m n bytes s t e z same =
-      let is : m ≡ open_with 0 = permitted m n e ∙ ap open_with z in
-      rw is (record { told = refl; after = same })
+-- no byte written means not yet
+abbrev pub polled : Result ℕ StreamError → Result (Poll ℕ) StreamError
+polled (Ok zero) = Ok Pending
+polled (Ok (suc n)) = Ok (Ready (suc n))
+polled (Err e) = Err e
 
-  pub writes_permitted : (m : Meaning) (n : ℕ) (bytes : List ℕ) (s t : S) → permit m ≡ Ok n → (n ≡ 0 → ⊥) → t ≡ wrote s (take n bytes) → WriteOperation checked wrote m bytes s (Ok (Ready (min n (length bytes)))) t
-  writes_permitted m zero bytes s t e some left = absurd (some refl)
-  writes_permitted m (suc n) bytes s t e some left = rw (permitted m (suc n) e) (record { told = refl; after = left })
+module _
+    {V : Type 0} (meaning : V → Meaning) (turned : V → V → Type 0) (checked : V → V) (accepts : V → List ℕ → Result (Unit {0}) StreamError) (wrote : V → List ℕ → V)
+    (rule : PermitRule meaning turned checked accepts) (keeps : (s : V) (n : ℕ) → meaning s ≡ open_with n → checked s ≡ s) where
+  -- a write under a permit, with no turn between, is accepted
+  accepted : (s : V) (n : ℕ) (bytes : List ℕ) → meaning s ≡ open_with n → 0 < n → length bytes ≤ n → accepts s bytes ≡ Ok tt
+  accepted s n bytes is pos few = go (accepts s bytes) refl (subst (λ u. Honoured meaning turned u s (accepts s bytes)) same (rule s s n bytes (ap permit is) pos few (subst (λ u. HostTurns turned u s) (sym same) none)))
+    where
+      same : checked s ≡ s
+      same = keeps s n is
 
--- a write under a permit, with no turn between, is accepted
-module _ {V : Type 0} (meaning : V → Meaning) (turned : V → V → Type 0) where
-  unhonoured : (s : V) (n : ℕ) (r : Result (Unit {0}) StreamError) (e : StreamError) → meaning s ≡ open_with n → r ≡ Err e → Honoured meaning turned s s r → ⊥
-  unhonoured s n (Ok x) e is refused h = let z : ◌≡◌ {A = ℕ} 0 1 = cc in omega arith
-  unhonoured s n (Err (LastOperationFailed f)) e is refused h = let u = h.untold in let z : ◌≡◌ {A = ℕ} 0 1 = cc in omega arith
-  unhonoured s n (Err Closed) e is refused h = h
-  unhonoured s n (Err (Trap t)) e is refused h = h
+      go : (r : Result (Unit {0}) StreamError) → accepts s bytes ≡ r → Honoured meaning turned s s r → accepts s bytes ≡ Ok tt
+      go (Ok x) e h = e
+      go (Err (LastOperationFailed f)) e h = let u = h.untold in impossible (cc)
+      go (Err Closed) e h = absurd h
+      go (Err (Trap t)) e h = absurd h
 
-  pub never_refused : (checked : V → V) (accepts : V → List ℕ → Result (Unit {0}) StreamError) → PermitRule meaning turned checked accepts →
-      (s : V) (n : ℕ) (bytes : List ℕ) (e : StreamError) → checked s ≡ s → permit (meaning s) ≡ Ok n → 0 < n → length bytes ≤ n → accepts s bytes ≡ Err e → ⊥
-  never_refused checked accepts rule s n bytes e same p pos few refused =
-      unhonoured s n (accepts s bytes) e (permitted (meaning s) n p) refused
-      (subst (λ u. Honoured meaning turned u s (accepts s bytes)) same (rule s s n bytes p pos few (subst (λ u. HostTurns turned u s) (sym same) none)))
+  some_written :
+      (s t : V) (bytes : List ℕ) (n k : ℕ) (r : Result ℕ StreamError) → meaning s ≡ open_with (suc n) → 0 < length bytes → k ≡ min (suc n) (length bytes) → r ≡ first_answer accepts k s bytes → t ≡ first_left wrote k s bytes →
+      WriteOperation checked wrote (open_with (suc n)) bytes s (polled r) t
+  some_written s t bytes n zero r is some e told left = absurd (omega arith)
+  some_written s t bytes n (suc j) r is some e told left =
+      let few : length (take (suc j) bytes) ≤ suc n = simp length-take (omega arith) in
+      let some_bytes = lt-ltb 0 (suc j) (omega arith) in
+      let ok : r ≡ Ok (suc j) = told ∙ ap (λ b. cond b (counted (suc j) (accepts s (take (suc j) bytes))) (Ok 0)) some_bytes ∙ ap (counted (suc j)) (accepted s (suc n) (take (suc j) bytes) is (omega arith) few) in
+      record {
+        told = ap polled ok ∙ ap (λ i. Ok (Ready i)) e;
+        after = left ∙ ap (λ b. cond b (wrote s (take (suc j) bytes)) s) some_bytes ∙ ap (wrote s) (ap (λ i. take i bytes) e ∙ first_bytes (suc n) bytes);
+      }
+
+  pub written : (s t : V) (bytes : List ℕ) (r : Result ℕ StreamError) → 0 < length bytes → r ≡ permitted_answer accepts (permit (meaning s)) (checked s) bytes → t ≡ permitted_left wrote (permit (meaning s)) (checked s) bytes
+      → WriteOperation checked wrote (meaning s) bytes s (polled r) t
+  written s t bytes r some told left = go (meaning s) refl told left
+    where
+      go : (m : Meaning) → meaning s ≡ m → r ≡ permitted_answer accepts (permit m) (checked s) bytes → t ≡ permitted_left wrote (permit m) (checked s) bytes → WriteOperation checked wrote m bytes s (polled r) t
+      go (faulted f) is told left = record { told = ap polled told; after = left }
+      go closed is told left = record { told = ap polled told; after = left }
+      go (open_with zero) is told left =
+          let none_written : min 0 (length bytes) ≡ 0 = omega arith in
+          record {
+            told = ap polled (told ∙ ap (λ k. first_answer accepts k (checked s) bytes) none_written);
+            after = left ∙ ap (λ k. first_left wrote k (checked s) bytes) none_written ∙ keeps s 0 is;
+          }
+      go (open_with (suc n)) is told left =
+          let same = keeps s (suc n) is in
+          some_written s t bytes n (min (suc n) (length bytes)) r is some refl (told ∙ ap (λ u. first_answer accepts (min (suc n) (length bytes)) u bytes) same) (left ∙ ap (λ u. first_left wrote (min (suc n) (length bytes)) u bytes) same)

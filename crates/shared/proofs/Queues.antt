@@ -1,5 +1,5 @@
 -- Every call of a handle keeps the rule of the queue. Assumes nothing.
-use Rattle.std.proofs.Common.{◌≡◌, ℕ, zero, suc, ◌<◌, ◌≤◌, Bool, true, false, cond, List, [], ◌∷◌, length, get_or, set, replicate, Ok, sym, refl, ap, ◌∙◌, arith, length-set, length-take, get_or-set_same}
+use Rattle.std.proofs.Common.{◌≡◌, ℕ, zero, suc, ◌<◌, ◌≤◌, Bool, true, false, cond, List, [], ◌∷◌, length, get_or, set, replicate, Ok, sym, refl, ap, ◌∙◌, arith, length-set, get_or-set_same}
 use Rattle.stream.specs.Meaning.{Meaning, faulted, closed, open_with}
 use Rattle.handles.specs.declared.handle.HandleState.{HandleState}
 use Rattle.handles.specs.declared.handle.HandleState.TheVariants.{Ready, Locking, Locked, Closed, Dropped}
@@ -106,7 +106,7 @@ module _ {S V : Type 0} (view : S → V) (a : AsyncStdoutStream S) where
   carried = record { size = refl; each = a.each; whole = a.whole }
 
   pub room : (h : ℕ) → (handle h (shared_view view a)).state ≡ Ready → length (queue_of a.parts.lock) < 16
-  room h ready = room_to_join (length (handles_of a.parts.table)) h (lock_of (shared_view view a)) carried (omega (arith, a.parts.table.few, length-take a.parts.table.count a.parts.table.handles)) ready
+  room h ready = room_to_join (length (handles_of a.parts.table)) h (lock_of (shared_view view a)) carried a.parts.table.few ready
 
 pub carries_on : {V : Type 0} (n : ℕ) (t v : SharedView V) → t ≡ v → QueueInvariant n (lock_of v) → QueueInvariant n (lock_of t)
 carries_on n t v e k = rw e k

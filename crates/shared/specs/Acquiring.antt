@@ -3,14 +3,15 @@
 --   Room       a handle that joins the line finds room there
 --   First      the grant goes to the first in the queue
 --   Acquires   what asking for the lock answers and leaves: no such handle, answered at once, in line, or granted
-use Rattle.std.specs.Prelude.{◌≡◌, ℕ, ◌<◌, Bool, true, false, List, length}
+use Rattle.std.specs.Prelude.{◌≡◌, ℕ, ◌<◌, Bool, true, false, List, length, Ok, Err, Result}
+use Rattle.handles.specs.declared.error.NoSuchHandle.{NoSuchHandle}
 use Rattle.handles.specs.declared.handle.HandleState.{HandleState}
 use Rattle.handles.specs.declared.handle.HandleState.TheVariants.{Ready, Locking, Locked, Closed, Dropped}
 use Rattle.promises.specs.SharedView.{SharedView, handle, holds, asked, waits}
 use Rattle.shared.specs.declared.locked_async.table.changes.Request.{Request}
 use Rattle.shared.specs.declared.locked_async.table.changes.Request.TheVariants.{Nothing, Write, Flush}
 use Rattle.shared.specs.declared.locked_async.parts.polls.Acquired.{Acquired}
-use Rattle.shared.specs.declared.locked_async.parts.polls.Acquired.TheVariants.{NoSuchHandle, Answered, InLine, Granted}
+use Rattle.shared.specs.declared.locked_async.parts.polls.Acquired.TheVariants.{Answered, InLine, Granted}
 
 abbrev pub is_open : HandleState → Bool
 is_open Ready = true
@@ -33,7 +34,6 @@ Needless Closed r = Unit {0}
 Needless Dropped r = ⊥
 
 abbrev pub First : ℕ → List ℕ → Acquired → Type 0
-First h q NoSuchHandle = ⊥
 First h q Answered = ⊥
 First h q InLine = holds h q ≡ false
 First h q (Granted grant) = (holds h q ≡ true) × (grant.handle ≡ h)
@@ -57,8 +57,8 @@ module _ {S : Type 0} where
     pub place : holds h (asked h s) ≡ first
     pub left : t ≡ waits Locking h s
 
-  abbrev pub Acquires : ℕ → Request → SharedView S → Acquired → SharedView S → Type 0
-  Acquires h request s NoSuchHandle t = Refused h s t
-  Acquires h request s Answered t = Idle h request s t
-  Acquires h request s InLine t = Entered h request false s t
-  Acquires h request s (Granted grant) t = Entered h request true s t × (grant.handle ≡ h)
+  abbrev pub Acquires : ℕ → Request → SharedView S → Result Acquired NoSuchHandle → SharedView S → Type 0
+  Acquires h request s (Err refusal) t = Refused h s t
+  Acquires h request s (Ok Answered) t = Idle h request s t
+  Acquires h request s (Ok InLine) t = Entered h request false s t
+  Acquires h request s (Ok (Granted grant)) t = Entered h request true s t × (grant.handle ≡ h)

@@ -4,8 +4,8 @@
 use Rattle.std.specs.Prelude.{ℕ, Bool, Ok, Err, Result}
 use Rattle.stream.specs.declared.error.StreamError.{StreamError}
 use Rattle.stream.specs.declared.error.StreamError.TheVariants.{LastOperationFailed, Closed as StreamClosed, Trap}
-use Rattle.handles.specs.declared.handle.HandleError.{HandleError}
-use Rattle.handles.specs.declared.handle.HandleError.TheVariants.{Stream}
+use Rattle.handles.specs.Errors.{HandleError}
+use Rattle.handles.specs.declared.error.CallError.TheVariants.{Stream}
 use Rattle.handles.specs.declared.handle.HandleState.TheVariants.{Ready, Locked, Closed}
 use Rattle.handles.specs.declared.handle.Poll.{Poll}
 use Rattle.handles.specs.declared.handle.Poll.TheVariants.{Ready as Answer, Pending}

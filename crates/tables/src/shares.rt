@@ -1,5 +1,5 @@
 // Handles that share a worker stream, and the same handles over a memory pipe.
-use handles::{DirectError, HandleError, HandleState, Poll};
+use handles::{DirectError, HandleError, HandleState, LockHeld, NoSuchHandle, Poll};
 use memory_pipe::MemoryOutputPipe;
 use memory_writers::memory::MemoryWriter;
 use shared::AsyncStdoutStream;
@@ -19,7 +19,7 @@ fn direct_calls_wait_for_the_lock(rt: HostRuntime) -> Result<(), Fail> {
     let mut shared = AsyncStdoutStream::new(two_handles()?, MemoryWriter::new(memory));
     assert_eq!(rt; shared.poll_write(0, b"abc"), Ok(Poll::Ready(2)));
     assert_eq!(rt; shared.poll_write(1, b"d"), Ok(Poll::Pending));
-    assert_eq!(rt; shared.check_write(), Err(DirectError::LockHeld));
+    assert_eq!(rt; shared.check_write(), Err(DirectError::Refused(LockHeld)));
     assert_eq!(rt; shared.handle_state(1), Ok(HandleState::Locked));
     let _ = shared.turn();
     assert_eq!(rt; shared.poll_write(1, b"d"), Ok(Poll::Ready(1)));
@@ -31,10 +31,10 @@ fn direct_calls_wait_for_the_lock(rt: HostRuntime) -> Result<(), Fail> {
 fn no_such_handle(rt: HostRuntime) -> Result<(), Fail> {
     let memory = vec![in rt.alloc(); 0u8; 8]?;
     let mut shared = AsyncStdoutStream::new(two_handles()?, MemoryWriter::new(memory));
-    assert_eq!(rt; shared.poll_flush(2), Err(HandleError::NoSuchHandle));
-    assert_eq!(rt; shared.handle_state(2), Err(HandleError::NoSuchHandle));
+    assert_eq!(rt; shared.poll_flush(2), Err(HandleError::Refused(NoSuchHandle)));
+    assert_eq!(rt; shared.handle_state(2), Err(HandleError::Refused(NoSuchHandle)));
     assert_eq!(rt; shared.drop_handle(1), Ok(()));
-    assert_eq!(rt; shared.poll_write(1, b""), Err(HandleError::NoSuchHandle));
+    assert_eq!(rt; shared.poll_write(1, b""), Err(HandleError::Refused(NoSuchHandle)));
     assert_eq!(rt; shared.handle_state(1), Ok(HandleState::Dropped));
     Ok(())
 }

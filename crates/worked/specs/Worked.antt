@@ -10,7 +10,7 @@ use Rattle.stream.specs.declared.limits.refusal.LimitsError.TheVariants.{BudgetT
 use Rattle.stream.specs.LimitsRules.{refusal}
 use Rattle.stream.specs.Meaning.{permit, flush_answer}
 use Rattle.memory_pipe.specs.PipeView.{PipeView, fresh as pipe, meaning as pipe_meaning, accepts as pipe_accepts, wrote as pipe_wrote}
-use Rattle.handles.specs.declared.direct.DirectError.TheVariants.{LockHeld}
+use Rattle.handles.specs.Errors.{lock_held}
 use Rattle.handles.specs.declared.handle.Poll.TheVariants.{Ready, Pending}
 use Rattle.promises.specs.Events.{check as checked, turn as turned, handle_write}
 use Rattle.worked.specs.Happens.{Happens, shared}
@@ -60,5 +60,5 @@ pub record Worked : Type 0 where
   pub full_pipe : FullPipe
   pub handles_share :
       Happens (shared 2 2 (memory 8 []))
-      (handle_write 0 three (Ok (Ready 2)) ∷ handle_write 1 (100 ∷ []) (Ok Pending) ∷ checked (Err LockHeld) ∷ turned (Finished 2) ∷ handle_write 1 (100 ∷ []) (Ok (Ready 1)) ∷ [])
+      (handle_write 0 three (Ok (Ready 2)) ∷ handle_write 1 (100 ∷ []) (Ok Pending) ∷ checked (Err lock_held) ∷ turned (Finished 2) ∷ handle_write 1 (100 ∷ []) (Ok (Ready 1)) ∷ [])
   pub limits_refused : LimitsRefused

@@ -1,14 +1,13 @@
 // The handles of a shared stream, up to 16. It knows nothing of what they share.
-ghost use Rattle.std.specs.Prelude.{◌≡◌, ◌≤◌, length};
+ghost use Rattle.std.specs.Prelude.{◌≤◌, length};
 
+use arrayvec::ArrayVec;
 use handles::StdoutHandle;
 
 #[derive(Drop)]
 pub struct Table {
-    handles: [StdoutHandle; 16],
-    count: usize,
-    ghost sized: { length handles ≡ 16 },
-    ghost few: { count ≤ 16 },
+    handles: ArrayVec<StdoutHandle, 16>,
+    ghost few: { length handles.items ≤ 16 },
 }
 
 pub mod changes;

@@ -1,17 +1,27 @@
 // Joining the line, taking a grant and giving it back. Relies on nothing.
-ghost use Rattle.std.specs.Prelude.{◌≡◌, ◌<◌, true, false, [], ◌∷◌, ◌++◌, length, MatchOption, ◌==◌};
+ghost use Rattle.std.specs.Prelude.{◌≡◌, ◌<◌, true, false, [], ◌∷◌, ◌++◌, length, MatchOption, MatchResult, ◌==◌};
 ghost use Rattle.promises.specs.SharedView.{holds, without};
 ghost use Rattle.shared.specs.LockOf.{queue_of};
 
 use super::{Grant, Lock};
+use arrayvec::ArrayVec;
+use handles::LockHeld;
+
+impl Grant {
+    // Whose grant it is.
+    pub(crate) fn handle(&self) -> usize
+        ensures { result ≡ self.now.handle }
+    {
+        self.handle
+    }
+}
 
 impl Lock {
     pub fn new() -> Lock
         ensures { queue_of result ≡ [] }
     {
         Lock {
-            queue: [0; 16],
-            len: 0,
+            queue: ArrayVec::new(),
         }
     }
 
@@ -19,26 +29,36 @@ impl Lock {
     pub fn is_free(&self) -> bool
         ensures { result ≡ (length (queue_of self.now) == 0) }
     {
-        self.len == 0
+        self.queue.is_empty()
+    }
+
+    // The question before a call that needs no grant.
+    pub(crate) fn check_free(&self) -> Result<(), LockHeld>
+        ensures { MatchResult result (λ _. queue_of self.now ≡ []) (λ _. 0 < length (queue_of self.now)) }
+    {
+        if self.is_free() {
+            Ok(())
+        } else {
+            Err(LockHeld)
+        }
     }
 
     // A handle joins the end of the line.
-    pub(crate) fn join(&mut self, handle: u8)
+    pub(crate) fn join(&mut self, handle: usize)
         requires { length (queue_of self.old) < 16 }
         ensures { queue_of self.new ≡ queue_of self.old ++ handle ∷ [] }
     {
-        self.queue[self.len] = handle;
-        self.len += 1;
+        self.queue.push(handle);
     }
 
     // The grant of the handle, if it is first.
-    pub(crate) fn grant(&self, handle: u8) -> Option<Grant>
+    pub(crate) fn grant(&self, handle: usize) -> Option<Grant>
         ensures { MatchOption result (holds handle (queue_of self.now) ≡ false) (λ g. (holds handle (queue_of self.now) ≡ true) × (g.handle ≡ handle)) }
     {
-        if self.len > 0 && self.queue[0] == handle {
-            return Some(Grant { handle });
+        match self.queue.first() {
+            Some(first) if *first == handle => Some(Grant { handle }),
+            _ => None,
         }
-        None
     }
 
     // The holder keeps the lock.
@@ -57,19 +77,9 @@ impl Lock {
     }
 
     // A handle leaves the queue, wherever it stands.
-    pub(crate) fn leave(&mut self, handle: u8)
+    pub(crate) fn leave(&mut self, handle: usize)
         ensures { queue_of self.new ≡ without handle (queue_of self.old) }
     {
-        let mut line = [0u8; 16];
-        let mut count = 0;
-        for i in 0..self.len {
-            let other = self.queue[i];
-            if other != handle {
-                line[count] = other;
-                count += 1;
-            }
-        }
-        self.queue = line;
-        self.len = count;
+        self.queue.retain(|other| *other != handle);
     }
 }

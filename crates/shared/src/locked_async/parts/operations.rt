@@ -3,28 +3,25 @@ ghost use Rattle.std.specs.Prelude.{◌<◌, length};
 ghost use Rattle.shared.specs.Operations.{WriteOperation, StageOperation};
 
 use handles::Poll;
-use stream::{OutputStream, StreamError};
+use stream::{OutputStream, StreamError, write_permitted};
 
-// Writes as many of the bytes as are permitted.
-pub(crate) fn write_permitted<S: OutputStream>(
+// Writes as many of the bytes as are permitted; where that is none, the write has to wait.
+pub(crate) fn write_or_wait<S: OutputStream>(
     stream: &mut S,
     bytes: &[u8],
 ) -> Result<Poll<usize>, StreamError>
     requires { 0 < length bytes.now }
     ensures { WriteOperation S.checked S.wrote (S.meaning (S.view stream.old)) bytes.now (S.view stream.old) result (S.view stream.new) }
 {
-    let permit = stream.check_write()?;
-    if permit == 0 {
-        return Ok(Poll::Pending);
-    }
-    let n = permit.min(bytes.len());
-    match stream.write(&bytes[0..n]) {
-        Ok(()) => Ok(Poll::Ready(n)),
-        Err(_) => unreachable(),
+    match write_permitted(stream, bytes) {
+        Ok(0) => Ok(Poll::Pending),
+        Ok(n) => Ok(Poll::Ready(n)),
+        Err(e) => Err(e),
     }
 }
 
 // The first stage of a flush.
+// It differs from the second in the call alone; a closure for the call would need as many lines and a contract more.
 pub(crate) fn begin_flush<S: OutputStream>(stream: &mut S) -> Result<Poll<()>, StreamError>
     ensures { StageOperation S.flushed (S.meaning (S.view stream.old)) (S.view stream.old) result (S.view stream.new) }
 {

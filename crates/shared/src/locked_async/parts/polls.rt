@@ -10,15 +10,14 @@ ghost use Rattle.shared.specs.LockOf.{queue_of};
 ghost use Rattle.shared.specs.PartsOf.{parts_view};
 
 use super::Parts;
-use super::operations::{begin_flush, end_flush, write_permitted};
+use super::operations::{begin_flush, end_flush, write_or_wait};
 use crate::locked_async::lock::Grant;
 use crate::locked_async::table::changes::{Met, Request};
-use handles::{HandleError, HandleState, Poll};
+use handles::{HandleError, HandleState, NoSuchHandle, Poll};
 use stream::{OutputStream, StreamError};
 
 // How asking for the lock ended.
 pub enum Acquired {
-    NoSuchHandle,
     // Closed, or nothing to do.
     Answered,
     InLine,
@@ -27,7 +26,7 @@ pub enum Acquired {
 
 impl<S: OutputStream> Parts<S> {
     // The grant of a handle that is first in the queue.
-    fn first(&self, number: u8) -> Acquired
+    fn first(&self, number: usize) -> Acquired
         ensures { First number (queue_of self.now.lock) result }
     {
         match self.lock.grant(number) {
@@ -37,76 +36,67 @@ impl<S: OutputStream> Parts<S> {
     }
 
     // Takes the lock for a handle, or has it stand in line.
-    fn acquire(&mut self, number: usize, request: Request) -> Acquired
+    fn acquire(&mut self, number: usize, request: Request) -> Result<Acquired, NoSuchHandle>
         requires { Room number (parts_view S.view self.old) }
         ensures { Acquires number request (parts_view S.view self.old) result (parts_view S.view self.new) }
     {
-        match self.table.ask(number, request) {
-            Met::NoSuchHandle => Acquired::NoSuchHandle,
-            Met::Answered => Acquired::Answered,
+        match self.table.ask(number, request)? {
+            Met::Answered => Ok(Acquired::Answered),
             Met::Joins => {
-                self.lock.join(number as u8);
-                self.first(number as u8)
+                self.lock.join(number);
+                Ok(self.first(number))
             }
-            Met::InLine => self.first(number as u8),
+            Met::InLine => Ok(self.first(number)),
         }
     }
 
     // Gives the grant back: kept on not yet, else handed on.
     fn give_back<T: Copy>(
         &mut self,
-        number: usize,
         grant: Grant,
         res: Result<Poll<T>, StreamError>,
         done: bool,
         ended: bool,
     )
-        requires { grant.handle ≡ number }
-        ensures { parts_view S.view self.new ≡ given_back res done ended number (parts_view S.view self.old) }
+        ensures { parts_view S.view self.new ≡ given_back res done ended grant.handle (parts_view S.view self.old) }
     {
         match res {
             Ok(Poll::Pending) => {
-                let mark = self.table.get(number).mark;
-                self.table.settle(number, HandleState::Locked, mark);
+                let mark = self.table.get(grant.handle()).mark;
+                self.table.settle(grant.handle(), HandleState::Locked, mark);
                 self.lock.keep(grant);
             }
             Ok(Poll::Ready(_)) => {
-                self.table.settle(number, HandleState::Ready, done);
+                self.table.settle(grant.handle(), HandleState::Ready, done);
                 self.lock.hand_on(grant);
             }
             Err(_) => {
-                self.table.settle(number, HandleState::Closed, ended);
+                self.table
+                    .settle(grant.handle(), HandleState::Closed, ended);
                 self.lock.hand_on(grant);
             }
         }
     }
 
     // A write of the holder.
-    fn write_granted(
-        &mut self,
-        number: usize,
-        grant: Grant,
-        bytes: &[u8],
-    ) -> Result<Poll<usize>, HandleError>
-        requires same { grant.handle ≡ number }
+    fn write_granted(&mut self, grant: Grant, bytes: &[u8]) -> Result<Poll<usize>, HandleError>
         requires some { 0 < length bytes.now }
-        requires state { (handle number (parts_view S.view self.old)).state ≡ Locking }
-        ensures { Gives (write_by S.meaning S.checked S.wrote (S.meaning (S.view self.old.stream)) number bytes.now (parts_view S.view self.old)) result (parts_view S.view self.new) }
+        requires state { (handle grant.handle (parts_view S.view self.old)).state ≡ Locking }
+        ensures { Gives (write_by S.meaning S.checked S.wrote (S.meaning (S.view self.old.stream)) grant.handle bytes.now (parts_view S.view self.old)) result (parts_view S.view self.new) }
     {
-        let mark = self.table.get(number).mark;
-        let result = write_permitted(&mut self.stream, bytes);
-        self.give_back(number, grant, result, false, mark);
+        let mark = self.table.get(grant.handle()).mark;
+        let result = write_or_wait(&mut self.stream, bytes);
+        self.give_back(grant, result, false, mark);
         unless_closed(result, 0)
     }
 
     // The second stage of a flush of the holder.
-    fn end_granted(&mut self, number: usize, grant: Grant) -> Result<Poll<()>, HandleError>
-        requires same { grant.handle ≡ number }
-        requires state { (handle number (parts_view S.view self.old)).state ≡ Locking }
-        ensures { Gives (second_by S.meaning S.checked S.flushed (S.meaning (S.view self.old.stream)) number (parts_view S.view self.old)) result (parts_view S.view self.new) }
+    fn end_granted(&mut self, grant: Grant) -> Result<Poll<()>, HandleError>
+        requires { (handle grant.handle (parts_view S.view self.old)).state ≡ Locking }
+        ensures { Gives (second_by S.meaning S.checked S.flushed (S.meaning (S.view self.old.stream)) grant.handle (parts_view S.view self.old)) result (parts_view S.view self.new) }
     {
         let result = end_flush(&mut self.stream);
-        self.give_back(number, grant, result, false, false);
+        self.give_back(grant, result, false, false);
         unless_closed(result, ())
     }
 
@@ -117,35 +107,26 @@ impl<S: OutputStream> Parts<S> {
         ensures { Gives (second_stage S.meaning S.checked S.flushed number (parts_view S.view self.old)) result (parts_view S.view self.new) }
     {
         match self.acquire(number, Request::Flush) {
-            Acquired::Granted(grant) => self.end_granted(number, grant),
-            Acquired::InLine => Ok(Poll::Pending),
-            Acquired::Answered => unreachable(),
-            Acquired::NoSuchHandle => unreachable(),
+            Ok(Acquired::Granted(grant)) => self.end_granted(grant),
+            Ok(Acquired::InLine) => Ok(Poll::Pending),
+            Ok(Acquired::Answered) | Err(_) => unreachable(),
         }
     }
 
     // The first stage of a flush of the holder; once the stream has accepted the flush, the second follows.
-    fn begin_granted(&mut self, number: usize, grant: Grant) -> Result<Poll<()>, HandleError>
-        requires same { grant.handle ≡ number }
-        requires there { number < length (parts_view S.view self.old).handles }
-        requires holder { holds number (parts_view S.view self.old).queue ≡ true }
-        requires state { (handle number (parts_view S.view self.old)).state ≡ Locking }
-        ensures { Gives (first_by S.meaning S.checked S.flushed (S.meaning (S.view self.old.stream)) number (parts_view S.view self.old)) result (parts_view S.view self.new) }
+    fn begin_granted(&mut self, grant: Grant) -> Result<Poll<()>, HandleError>
+        requires there { grant.handle < length (parts_view S.view self.old).handles }
+        requires holder { holds grant.handle (parts_view S.view self.old).queue ≡ true }
+        requires state { (handle grant.handle (parts_view S.view self.old)).state ≡ Locking }
+        ensures { Gives (first_by S.meaning S.checked S.flushed (S.meaning (S.view self.old.stream)) grant.handle (parts_view S.view self.old)) result (parts_view S.view self.new) }
     {
+        let number = grant.handle();
         let mark = self.table.get(number).mark;
-        match begin_flush(&mut self.stream) {
-            Ok(Poll::Ready(())) => {
-                self.give_back(number, grant, Ok(Poll::Ready(())), true, mark);
-                self.second_stage(number)
-            }
-            Ok(Poll::Pending) => {
-                self.give_back::<()>(number, grant, Ok(Poll::Pending), true, mark);
-                Ok(Poll::Pending)
-            }
-            Err(e) => {
-                self.give_back::<()>(number, grant, Err(e), true, mark);
-                unless_closed(Err(e), ())
-            }
+        let result = begin_flush(&mut self.stream);
+        self.give_back(grant, result, true, mark);
+        match result {
+            Ok(Poll::Ready(())) => self.second_stage(number),
+            Ok(Poll::Pending) | Err(_) => unless_closed(result, ()),
         }
     }
 
@@ -157,11 +138,10 @@ impl<S: OutputStream> Parts<S> {
         requires { Room number (parts_view S.view self.old) }
         ensures { Gives (poll_write S.meaning S.checked S.wrote number bytes.now (parts_view S.view self.old)) result (parts_view S.view self.new) }
     {
-        match self.acquire(number, requested(bytes)) {
-            Acquired::Granted(grant) => self.write_granted(number, grant, bytes),
+        match self.acquire(number, requested(bytes))? {
+            Acquired::Granted(grant) => self.write_granted(grant, bytes),
             Acquired::InLine => Ok(Poll::Pending),
             Acquired::Answered => Ok(Poll::Ready(0)),
-            Acquired::NoSuchHandle => Err(HandleError::NoSuchHandle),
         }
     }
 
@@ -170,12 +150,11 @@ impl<S: OutputStream> Parts<S> {
         ensures { Gives (poll_flush S.meaning S.checked S.flushed number (parts_view S.view self.old)) result (parts_view S.view self.new) }
     {
         let mark = self.table.get(number).mark;
-        match self.acquire(number, Request::Flush) {
-            Acquired::Granted(grant) if mark => self.end_granted(number, grant),
-            Acquired::Granted(grant) => self.begin_granted(number, grant),
+        match self.acquire(number, Request::Flush)? {
+            Acquired::Granted(grant) if mark => self.end_granted(grant),
+            Acquired::Granted(grant) => self.begin_granted(grant),
             Acquired::InLine => Ok(Poll::Pending),
             Acquired::Answered => Ok(Poll::Ready(())),
-            Acquired::NoSuchHandle => Err(HandleError::NoSuchHandle),
         }
     }
 
@@ -184,10 +163,10 @@ impl<S: OutputStream> Parts<S> {
         ensures { Gives (drop_handle number (parts_view S.view self.old)) result (parts_view S.view self.new) }
     {
         if let HandleState::Dropped = self.table.get(number).state {
-            return Err(HandleError::NoSuchHandle);
+            return Err(NoSuchHandle.into());
         }
         self.table.settle(number, HandleState::Dropped, false);
-        self.lock.leave(number as u8);
+        self.lock.leave(number);
         Ok(())
     }
 }
@@ -210,8 +189,8 @@ fn unless_closed<T: Copy>(
 ) -> Result<Poll<T>, HandleError>
     ensures { result ≡ answered_by res closed }
 {
-    if let Err(StreamError::Closed) = res {
-        return Ok(Poll::Ready(closed));
+    match res {
+        Err(StreamError::Closed) => Ok(Poll::Ready(closed)),
+        _ => Ok(res?),
     }
-    Ok(res?)
 }

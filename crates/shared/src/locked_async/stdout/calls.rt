@@ -9,7 +9,7 @@ use super::AsyncStdoutStream;
 use crate::locked_async::lock::Lock;
 use crate::locked_async::parts::Parts;
 use crate::locked_async::table::Table;
-use handles::{DirectError, HandleError, HandleState, Poll};
+use handles::{DirectError, HandleError, HandleState, NoSuchHandle, Poll};
 use stream::{Limits, OutputStream};
 
 impl<S: OutputStream> AsyncStdoutStream<S> {
@@ -36,27 +36,21 @@ impl<S: OutputStream> AsyncStdoutStream<S> {
     pub fn write(&mut self, bytes: &[u8]) -> Result<(), DirectError>
         ensures { Gives (direct_write S.accepts S.wrote bytes.now (shared_view S.view self.old)) result (shared_view S.view self.new) }
     {
-        if !self.parts.lock.is_free() {
-            return Err(DirectError::LockHeld);
-        }
+        self.parts.lock.check_free()?;
         Ok(self.parts.stream.write(bytes)?)
     }
 
     pub fn check_write(&mut self) -> Result<usize, DirectError>
         ensures { Gives (direct_check S.meaning S.checked (shared_view S.view self.old)) result (shared_view S.view self.new) }
     {
-        if !self.parts.lock.is_free() {
-            return Err(DirectError::LockHeld);
-        }
+        self.parts.lock.check_free()?;
         Ok(self.parts.stream.check_write()?)
     }
 
     pub fn flush(&mut self) -> Result<(), DirectError>
         ensures { Gives (direct_flush S.meaning S.flushed (shared_view S.view self.old)) result (shared_view S.view self.new) }
     {
-        if !self.parts.lock.is_free() {
-            return Err(DirectError::LockHeld);
-        }
+        self.parts.lock.check_free()?;
         Ok(self.parts.stream.flush()?)
     }
 
@@ -88,6 +82,6 @@ impl<S: OutputStream> AsyncStdoutStream<S> {
         if handle < self.parts.table.len() {
             return Ok(self.parts.table.get(handle).state);
         }
-        Err(HandleError::NoSuchHandle)
+        Err(NoSuchHandle.into())
     }
 }

@@ -9,15 +9,15 @@ returns-in-Granted g c =
     let O = g.S.OutputStream in
     let s = parts_view O.view c.args.self.now in
     let t = parts_view O.view c.acquire.new.self in
-    let entered = c.in-Granted.ensures.0 in
-    flush_marked O.meaning O.checked c.args.number s t O.flushed _ _ entered.open_now (ap (λ (x : HandleView). x.mark) (sym c.get-mark.ensures) ∙ c.if-mark.true)
-    (second_granted O.meaning O.checked c.args.number s t O.flushed _ _ entered c.end_granted.ensures)
+    let entered = rw c.in-Granted.is at c.in_ok-grant.ensures in
+    flush_marked O.meaning O.checked c.args.number s t O.flushed _ _ entered.0.open_now (ap (λ (x : HandleView). x.mark) (sym c.get-mark.ensures) ∙ c.if-mark.true)
+    (second_granted O.meaning O.checked c.args.number s t O.flushed _ _ entered.0 (rw entered.1 at c.end_granted.ensures))
 
 pub returns-in-Granted-2 : goal.returns-in-Granted-2
 returns-in-Granted-2 g c =
     let O = g.S.OutputStream in
     let s = parts_view O.view c.args.self.now in
     let t = parts_view O.view c.acquire.new.self in
-    let entered = c.in-Granted-2.ensures.0 in
-    flush_unmarked O.meaning O.checked c.args.number s t O.flushed _ _ entered.open_now (ap (λ (x : HandleView). x.mark) (sym c.get-mark.ensures) ∙ c.if-mark.false)
-    (first_granted O.meaning O.checked c.args.number s t O.flushed _ _ entered c.begin_granted.ensures)
+    let entered = rw c.in-Granted.is at c.in_ok-grant.ensures in
+    flush_unmarked O.meaning O.checked c.args.number s t O.flushed _ _ entered.0.open_now (ap (λ (x : HandleView). x.mark) (sym c.get-mark.ensures) ∙ c.if-mark.false)
+    (first_granted O.meaning O.checked c.args.number s t O.flushed _ _ entered.0 (rw entered.1 at c.begin_granted.ensures))

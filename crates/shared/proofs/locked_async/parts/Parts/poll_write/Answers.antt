@@ -6,6 +6,6 @@ use Rattle.shared.proofs.locked_async.parts.Parts.poll_write.Goals as goal
 pub returns-in-Granted : goal.returns-in-Granted
 returns-in-Granted g c =
     let O = g.S.OutputStream in
-    let entered = c.in-Granted.ensures.0 in
+    let entered = rw c.in-Granted.is at c.in_ok-grant.ensures in
     write_granted O.meaning O.checked c.args.number (parts_view O.view c.args.self.now) (parts_view O.view c.acquire.new.self) O.wrote c.args.bytes.now c.requested.result _ _
-    (ltb-true 0 (length c.args.bytes.now) (sym c.requested.ensures ∙ entered.wanted)) entered c.write_granted.ensures
+    (ltb-true 0 (length c.args.bytes.now) (sym c.requested.ensures ∙ entered.0.wanted)) entered.0 (rw entered.1 at c.write_granted.ensures)
