@@ -21,7 +21,8 @@ pub struct StdoutHandle {
     pub mark: bool,
 }
 
-// What a poll answers: a value, or not yet.
+// What a poll answers: a value, or not yet. Rust has this type in its own library, and this one has not;
+// the `None` of an `Option` would not say "not yet".
 #[derive(Clone, Copy, PartialEq, Eq, Debug)]
 pub enum Poll<T> {
     Ready(T),

@@ -1,25 +1,19 @@
 -- What a poll meets of a stream, by its meaning. Assumes nothing.
-use Rattle.std.proofs.Common.{◌≡◌, ℕ, zero, suc, ◌<◌, ◌≤◌, min, false, cond, List, length, take, Ok, Err, Result, sym, refl, ap, ◌∙◌, subst, arith, lt-ltb, ltb-false, length-take}
+use Rattle.std.proofs.Common.{◌≡◌, ℕ, zero, suc, ◌<◌, ◌≤◌, min, cond, List, length, take, Ok, Err, Result, sym, refl, ap, ◌∙◌, subst, arith, lt-ltb, length-take}
 use native.Mathlib.Decide.{dec_le}
 use Rattle.std.proofs.lemmas.List.{take_all}
 use Rattle.stream.specs.declared.error.StreamError.{StreamError}
 use Rattle.stream.specs.declared.error.StreamError.TheVariants.{LastOperationFailed, Closed, Trap}
-use Rattle.stream.specs.Meaning.{Meaning, faulted, closed, open_with, permit, ready}
+use Rattle.stream.specs.Meaning.{Meaning, faulted, closed, open_with, permit}
 use Rattle.stream.specs.HostTurns.{HostTurns, none}
 use Rattle.stream.specs.StreamRules.{Honoured, PermitRule}
 use Rattle.stream.specs.WritePermitted.{counted, first_answer, permitted_answer, first_left, permitted_left}
 use Rattle.handles.specs.declared.handle.Poll.{Poll}
 use Rattle.handles.specs.declared.handle.Poll.TheVariants.{Ready, Pending}
-use Rattle.shared.specs.Operations.{StageOperation, WriteOperation}
+use Rattle.shared.specs.Operations.{WriteOperation}
 
 impossible : {P : Type 0} → ◌≡◌ {A = ℕ} 0 1 → P
 impossible z = absurd (omega arith)
-
-pub waits_unready : {S : Type 0} (call : S → S) (m : Meaning) (s : S) → ready m ≡ false → StageOperation call m s (Ok Pending) s
-waits_unready call (faulted f) s e = impossible (cc)
-waits_unready call closed s e = impossible (cc)
-waits_unready call (open_with zero) s e = record { told = refl; after = refl }
-waits_unready call (open_with (suc n)) s e = absurd (omega (arith, ltb-false 0 (suc n) e))
 
 first_bytes : (k : ℕ) (bytes : List ℕ) → take (min k (length bytes)) bytes ≡ take k bytes
 first_bytes k bytes = elim (dec_le k (length bytes)) [ yes h ↦ ap (λ n. take n bytes) (omega arith) | no h ↦ (ap (λ n. take n bytes) (omega arith) ∙ take_all (length bytes) bytes (omega arith)) ∙ sym (take_all k bytes (omega arith)) ]

@@ -3,8 +3,6 @@
 
 ghost use Rattle.worked.specs.Worked.{Worked};
 
-pub fn worked_runs() -> u8
+pub fn worked_runs()
     ensures { Worked }
-{
-    0
-}
+{}

@@ -3,6 +3,7 @@ ghost use Rattle.std.specs.Prelude.{◌≤◌, length};
 
 use arrayvec::ArrayVec;
 
+// No `impl Model` gives the line as its value: what calls it reads the bound, which a model hides.
 #[derive(Drop)]
 pub struct Lock {
     queue: ArrayVec<usize, 16>,

@@ -4,6 +4,7 @@ ghost use Rattle.std.specs.Prelude.{◌≤◌, length};
 use arrayvec::ArrayVec;
 use handles::StdoutHandle;
 
+// No `impl Model` gives the handles as its value: what calls it reads the bound, which a model hides.
 #[derive(Drop)]
 pub struct Table {
     handles: ArrayVec<StdoutHandle, 16>,

@@ -24,6 +24,8 @@ pub enum Acquired {
     Granted(Grant),
 }
 
+// What these calls ask of one another (room in the line, a handle that is Locking, a holder) are conditions of their own:
+// as ghost fields they would have to hold between the two halves of a change to the line and to the table.
 impl<S: OutputStream> Parts<S> {
     // The grant of a handle that is first in the queue.
     fn first(&self, number: usize) -> Acquired

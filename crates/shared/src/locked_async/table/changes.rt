@@ -65,7 +65,7 @@ impl Table {
         self.handles.len()
     }
 
-    // A handle by its number; one that there is not reads as dropped.
+    // A handle by its number; one that there is not reads as dropped, as the rules have it: no `Option` says more.
     pub fn get(&self, number: usize) -> StdoutHandle
         ensures { result ≡ slice_index_or (handles_of self.now) number dropped }
     {
