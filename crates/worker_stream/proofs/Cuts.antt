@@ -44,7 +44,7 @@ next_part (b ∷ bs) ws k pending part e h = (e, simp length-drop (omega arith))
 pub next_is_rest :
     (ns bytes : List ℕ) (n k : ℕ) (pending : Bool) (part : Bor (List ℕ)) → sum ns ≡ length bytes → k ≤ get_or ns 0 0 - 1 → slice_get ns 0 ≡ Some n → part.now ≡ take (n - k) (drop k bytes)
     → Next (work_left (cuts ns bytes) k pending) (Some (Write part))
-next_is_rest [] bytes n k pending part whole along first is = absurd (let z : ◌≡◌ {A = ℕ} 0 1 = cc in omega arith)
+next_is_rest [] bytes n k pending part whole along first is = absurd (cc)
 next_is_rest (m ∷ ns) bytes n k pending part whole along first is =
     let same : m ≡ n = cc in
     next_part (take m bytes) _ k pending part (rw (same, is) (between_is bytes k n)) (omega (arith, length-take-le m bytes (first_le m ns bytes whole)))

@@ -83,7 +83,7 @@ module _ {V : Type 0} (writes : V → List ℕ → WriteAnswer → V → Type 0)
       go : (b a : Bool) (w : Work) → a ≡ false → Does writes flushes (cond b stop (cond a w stop)) s r t → t ≡ s
       go true a w e d = d.view
       go false false w e d = d.view
-      go false true w e d = absurd (let z : ◌≡◌ {A = ℕ} 0 1 = cc in omega arith)
+      go false true w e d = absurd (cc)
 
   -- over turns the permit holds, or some turn met a fault that is not told yet
   Held : ℕ → WorkerView V → WorkerView V → Type 0
@@ -121,8 +121,8 @@ module _ {V : Type 0} where
           (record { lives = a; no_flush = b; room = (let q : s.free ≡ n = cc in omega arith); few = ltb-true (length s.unfinished) 256 c }, rw a)
       go Alive false false a b c e = absurd (let q : 0 ≡ n = cc in omega arith)
       go Alive true l a b c e = absurd (let q : 0 ≡ n = cc in omega arith)
-      go (Faulted f) p l a b c e = absurd (let z : ◌≡◌ {A = ℕ} 0 1 = cc in omega arith)
-      go Closed p l a b c e = absurd (let z : ◌≡◌ {A = ℕ} 0 1 = cc in omega arith)
+      go (Faulted f) p l a b c e = absurd (cc)
+      go Closed p l a b c e = absurd (cc)
 
 module _ {V : Type 0} (writes : V → List ℕ → WriteAnswer → V → Type 0) (flushes : V → FlushAnswer → V → Type 0) where
   pub permit_holds : PermitRule meaning (TurnedOnce writes flushes) checked accepts
