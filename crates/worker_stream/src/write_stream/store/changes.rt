@@ -58,7 +58,7 @@ impl Store {
         ensures { Next (work_left self.now.unfinished self.now.progress flush_pending) result }
     {
         match self.lengths.first() {
-            Some(&length) => { Some(Job::Write(&self.bytes[self.progress..usize::from(length)])) }
+            Some(&length) => Some(Job::Write(&self.bytes[self.progress..usize::from(length)])),
             None => flush_pending.then_some(Job::Flush),
         }
     }
