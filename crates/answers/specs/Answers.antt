@@ -1,8 +1,10 @@
 -- The text of answers. Assumes nothing.
---   answer_text       the text that is printed of an answer
---   OneLine           no newline stands in the text
---   AnswersAreLines   each answer's text, with a newline after it, is one line of what is printed
-use Rattle.std.specs.Prelude.{◌≡◌, ℕ, List, ◌∷◌, ◌++◌, codes, decimal, ◌≢◌}
+--   answer_text          the text that is printed of an answer
+--   answer_lines         the text that is printed of some answers: a newline stands after each
+--   OneLine              no newline stands in the text
+--   AnswersAreLines      each answer's text, with a newline after it, is one line of what is printed
+--   AnswersAreTheLines   the lines of what is printed of some answers are their texts
+use Rattle.std.specs.Prelude.{◌≡◌, ℕ, List, [], ◌∷◌, ◌++◌, codes, decimal, ◌≢◌, map, flat_map}
 use Rattle.std.specs.List.{AllByRecursion}
 use Rattle.writer.specs.declared.answer.Fault.TheVariants.{WriteZero, Device}
 use Rattle.script.specs.Lines.{lines}
@@ -25,8 +27,14 @@ answer_text (Fault WriteZero) = codes "e 20 zero"
 answer_text (Fault (Device code)) = codes "e 20 d " ++ decimal code
 answer_text Misfit = codes "?"
 
+abbrev pub answer_lines : List Answer → List ℕ
+answer_lines answers = flat_map (λ answer. answer_text answer ++ 10 ∷ []) answers
+
 abbrev pub OneLine : List ℕ → Type 0
 OneLine text = AllByRecursion (λ b. b ≢ 10) text
 
 abbrev pub AnswersAreLines : Type 0
 AnswersAreLines = (answer : Answer) → OneLine (answer_text answer) × ((rest : List ℕ) → lines (answer_text answer ++ (10 ∷ rest)) ≡ answer_text answer ∷ lines rest)
+
+abbrev pub AnswersAreTheLines : Type 0
+AnswersAreTheLines = (answers : List Answer) → lines (answer_lines answers) ≡ map answer_text answers

@@ -1,5 +1,5 @@
 // What a run of a script answers, and how it is printed. Relies on a writer's fault.
-ghost use Rattle.answers.specs.Answers.{answer_text, AnswersAreLines};
+ghost use Rattle.answers.specs.Answers.{answer_text, AnswersAreLines, AnswersAreTheLines};
 ghost use Rattle.std.specs.Prelude.{Some};
 
 use std::fmt;
@@ -24,7 +24,7 @@ pub enum Answer {
     Idle,
     Stopped,
     Failed,
-    // The call was refused, with the number of the reason.
+    // The call was refused, with the number of the reason: it is printed by that number, which the rules fix.
     Refused(u8),
     // The last operation of the writer failed.
     Fault(Fault),
@@ -55,9 +55,8 @@ impl fmt::Display for Answer {
     }
 }
 
-// Each answer, printed with a newline after it, is one line.
-pub fn answers_are_lines() -> u8
+// Each answer, printed with a newline after it, is one line, and so the lines of what is printed are the answers' texts.
+pub fn answers_are_lines()
     ensures lines { AnswersAreLines }
-{
-    0
-}
+    ensures whole { AnswersAreTheLines }
+{}

@@ -2,5 +2,10 @@
 #![tactic(auto)]
 
 pub mod answer;
+pub mod answer_lines;
+pub mod refusals;
+pub mod replies;
+pub mod values;
 
 pub use answer::Answer;
+pub use answer_lines::AnswerLines;

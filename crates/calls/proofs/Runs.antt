@@ -11,8 +11,9 @@ use Rattle.promises.specs.Steps.{Step}
 use Rattle.promises.specs.History.{History, start, ◌▷◌, ◌▷▷◌}
 use Rattle.promises.specs.Promises.{Run, made, called, Promises}
 use Rattle.calls.specs.declared.call.Answer.{Answer}
-use Rattle.calls.specs.declared.call.Call.{Call}
-use Rattle.calls.specs.Calls.{call_view, Pairs, Performed, more}
+use Rattle.handles.specs.declared.call.Call.{Call}
+use Rattle.handles.specs.Calls.{call_view}
+use Rattle.calls.specs.Calls.{Pairs, Performed, more}
 use Rattle.calls.specs.Running.{HoldsAt, Kept}
 
 module _ {V : Type 0} (writes : V → List ℕ → WriteAnswer → V → Type 0) (flushes : V → FlushAnswer → V → Type 0) where

@@ -1,35 +1,12 @@
 -- Calls with their answers, and the history that they make. Assumes nothing.
---   CallView    a call, with the bytes in place of the reference to them
---   call_view   the same of a call of the code
 --   Pairs       an event is this call with this answer
 --   Performed   a history is these calls with these answers, in order
-use Rattle.std.specs.Prelude.{◌≡◌, ℕ, List, [], ◌∷◌, ◌++◌}
+use Rattle.std.specs.Prelude.{◌≡◌, List, [], ◌∷◌, ◌++◌}
 use Rattle.promises.specs.Events.{Event, write, check, flush, cancel, turn, handle_write, handle_flush, handle_drop}
 use Rattle.promises.specs.History.{History, start, ◌▷◌}
-use Rattle.calls.specs.declared.call.Call.{Call}
-use Rattle.calls.specs.declared.call.Call.TheVariants.{Write, CheckWrite, Flush, Cancel, Turn, PollWrite, PollFlush, DropHandle}
+use Rattle.handles.specs.Calls.{CallView, writes, checks, flushes, cancels, turns, polls_write, polls_flush, drops}
 use Rattle.calls.specs.declared.call.Answer.{Answer}
 use Rattle.calls.specs.declared.call.Answer.TheVariants.{Write as Wrote, CheckWrite as Checked, Flush as Flushed, Cancel as Cancelled, Turn as Turned, PollWrite as PolledWrite, PollFlush as PolledFlush, DropHandle as Dropped}
-
-pub data CallView : Type 0 where
-  writes : List ℕ → CallView
-  checks : CallView
-  flushes : CallView
-  cancels : CallView
-  turns : CallView
-  polls_write : ℕ → List ℕ → CallView
-  polls_flush : ℕ → CallView
-  drops : ℕ → CallView
-
-abbrev pub call_view : Call → CallView
-call_view (Write bytes) = writes bytes.now
-call_view CheckWrite = checks
-call_view Flush = flushes
-call_view Cancel = cancels
-call_view Turn = turns
-call_view (PollWrite h bytes) = polls_write h bytes.now
-call_view (PollFlush h) = polls_flush h
-call_view (DropHandle h) = drops h
 
 pub record Both (P Q : Type 0) : Type 0 where
   pub call : P

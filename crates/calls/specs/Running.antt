@@ -14,7 +14,8 @@ use Rattle.promises.specs.Steps.{free_budget, handle_state}
 use Rattle.promises.specs.History.{History, ◌▷◌, ◌▷▷◌, NoCancel, Patient}
 use Rattle.promises.specs.Promises.{Run, Conserved, Covered, InTime}
 use Rattle.calls.specs.declared.call.Answer.{Answer}
-use Rattle.calls.specs.Calls.{CallView, Performed}
+use Rattle.handles.specs.Calls.{CallView}
+use Rattle.calls.specs.Calls.{Performed}
 
 module _ {V : Type 0} (taken : V → List ℕ) (covered : V → ℕ) (writes : V → List ℕ → WriteAnswer → V → Type 0) (flushes : V → FlushAnswer → V → Type 0) (budget handles : ℕ) (writer : V) where
   pub record HoldsAt (es : History) (s : SharedView (WorkerView V)) : Type 0 where

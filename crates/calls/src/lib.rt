@@ -5,4 +5,5 @@ pub mod call;
 pub mod perform;
 pub mod run;
 
-pub use call::{Answer, Call};
+pub use call::Answer;
+pub use handles::Call;

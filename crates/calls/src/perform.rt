@@ -1,11 +1,13 @@
 // One call of a shared stream, given as data. Relies on the calls of the shared stream, each of which is one step of the rules.
-ghost use Rattle.calls.specs.Calls.{call_view, Pairs};
+ghost use Rattle.handles.specs.Calls.{call_view};
+ghost use Rattle.calls.specs.Calls.{Pairs};
 ghost use Rattle.promises.specs.Events.{Event};
 ghost use Rattle.promises.specs.Steps.{Step};
 ghost use Rattle.shared.specs.SharedOf.{shared_view};
 ghost use Rattle.worker_stream.specs.WorkerOf.{worker_view};
 
-use crate::call::{Answer, Call};
+use crate::call::Answer;
+use handles::Call;
 use shared::AsyncStdoutStream;
 use worker_stream::AsyncWriteStream;
 use writer::Writer;

@@ -1,12 +1,13 @@
 // A whole list of calls, from a shared stream just made. Its contract carries the promises. Relies on the calls of the shared stream.
 ghost use Rattle.std.specs.Prelude.{◌≡◌, ◌<◌, ◌≤◌, map, length, vec_capacity, MatchResult};
-ghost use Rattle.calls.specs.Calls.{call_view};
+ghost use Rattle.handles.specs.Calls.{call_view};
 ghost use Rattle.calls.specs.Running.{Ran};
 ghost use Rattle.shared.specs.SharedOf.{shared_view};
 ghost use Rattle.worker_stream.specs.WorkerOf.{worker_view};
 
-use crate::call::{Answer, Call};
+use crate::call::Answer;
 use crate::perform::perform;
+use handles::Call;
 use shared::locked_async::stdout::AsyncStdoutStream;
 use stream::Limits;
 use worker_stream::write_stream::AsyncWriteStream;

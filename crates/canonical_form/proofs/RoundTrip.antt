@@ -1,14 +1,15 @@
 -- The canonical text of a command is read as that command. Assumes nothing.
-use Rattle.std.proofs.Common.{◌≡◌, ℕ, ◌^◌, ◌<◌, ◌≤◌, List, [], ◌∷◌, ◌++◌, Some, codes, decimal, Option, refl, ap, ◌∙◌, append_assoc, arith, ne_eqb, le-leb}
+use Rattle.std.proofs.Common.{◌≡◌, ℕ, ◌^◌, ◌<◌, ◌≤◌, List, [], ◌∷◌, ◌++◌, Some, decimal, refl, ap, ◌∙◌, arith, ne_eqb, le-leb}
 use Rattle.std.proofs.lemmas.Fmt.{decimal_is_IsNumeral, length-decimal-le}
 use Rattle.std.proofs.lemmas.Str.Parse.{digit_from_value}
-use Rattle.std.specs.Option.{option_map}
+use Rattle.std.specs.Option.{option_map, option_and_then}
 use Rattle.std.specs.Str.Parse.{AllDigits}
 use Rattle.planned_writer.specs.declared.plan.PlanEntry.TheVariants.{AtMost, NotYet, Fail}
-use Rattle.script.specs.Commands.{CommandView, write, check_write, flush, cancel, turn, handle_write, handle_flush, handle_drop, plan, canonical}
-use Rattle.script.specs.Lines.{Parts, split_at_mark}
+use Rattle.handles.specs.Calls.{writes, checks, flushes, cancels, turns, polls_write, polls_flush, drops}
+use Rattle.script.specs.Commands.{CommandView, call, plan}
+use Rattle.script.specs.Lines.{split_at_mark}
 use Rattle.script.specs.Numbers.{number, at_most}
-use Rattle.script.specs.Parsing.{and_then, ParsesBack}
+use Rattle.script.specs.Parsing.{ParsesBack}
 use Rattle.script.proofs.Readings.{number_digits}
 
 number_decimal : (n : ℕ) → n < 10 ^ 9 → number (decimal n) ≡ Some n
@@ -27,20 +28,17 @@ split_after_digits (d ∷ ds) bs digits =
     rw (ne_eqb d 32 (λ e. omega arith), ih)
 
 pub parses_back : (command : CommandView) → ParsesBack command
-parses_back (write bytes) plain = refl
-parses_back check_write plain = refl
-parses_back flush plain = refl
-parses_back cancel plain = refl
-parses_back turn plain = refl
-parses_back (handle_write handle bytes) plain =
+parses_back (call (writes bytes)) plain = refl
+parses_back (call checks) plain = refl
+parses_back (call flushes) plain = refl
+parses_back (call cancels) plain = refl
+parses_back (call turns) plain = refl
+parses_back (call (polls_write handle bytes)) plain =
     let parts = split_after_digits (decimal handle) bytes (decimal_is_IsNumeral handle (omega arith)).0.1 in
-    ap (λ (o : Option Parts). and_then o (λ p. option_map (λ n. handle_write n p.1) (number p.0))) parts
-    ∙ ap (option_map (λ n. handle_write n bytes)) (number_decimal handle plain)
-parses_back (handle_flush handle) plain = ap (option_map handle_flush) (number_decimal handle plain)
-parses_back (handle_drop handle) plain = ap (option_map handle_drop) (number_decimal handle plain)
+    ap (option_and_then (λ p. option_map (λ n. call (polls_write n p.1)) (number p.0))) parts
+    ∙ ap (option_map (λ n. call (polls_write n bytes))) (number_decimal handle plain)
+parses_back (call (polls_flush handle)) plain = ap (option_map (λ n. call (polls_flush n))) (number_decimal handle plain)
+parses_back (call (drops handle)) plain = ap (option_map (λ n. call (drops n))) (number_decimal handle plain)
 parses_back (plan (AtMost most)) plain = ap (option_map (λ n. plan (AtMost n))) (at_most_decimal 4096 most (omega arith) plain)
 parses_back (plan NotYet) plain = refl
 parses_back (plan (Fail code)) plain = ap (option_map (λ n. plan (Fail n))) (at_most_decimal 255 code (omega arith) plain)
-
-pub canonical_handle_write : (handle : ℕ) (bytes text : List ℕ) → text ≡ codes "W " ++ (decimal handle ++ codes " ") → text ++ bytes ≡ canonical (handle_write handle bytes)
-canonical_handle_write handle bytes text e = ap (λ (l : List ℕ). l ++ bytes) e ∙ ap (λ (l : List ℕ). codes "W " ++ l) (append_assoc (decimal handle) (codes " ") bytes)

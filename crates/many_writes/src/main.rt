@@ -1,16 +1,8 @@
 // Plays a script of 256 writes that wait for their turns, and prints its answers under its name.
 #![tactic(auto)]
 
-use session::run_script;
-use std::fs;
+use playing::play_file;
 
 fn main(rt: HostRuntime) -> anyhow::Result<()> {
-    let path = "writes-256.script";
-    let text = fs::read(&rt, path)?;
-    println!(rt; "{path}")?;
-    let answers = run_script(rt.alloc(), text.as_slice())?;
-    for answer in answers.iter() {
-        println!(rt; "{answer}")?;
-    }
-    Ok(())
+    play_file(&rt, "writes-256.script")
 }

@@ -1,63 +1,24 @@
-// The life of a memory pipe of 3 bytes, and of one of 0: a line for each call. Relies on `memory_pipe`.
+// The life of a memory pipe of 3 bytes, and of one of 0: a line for each call. Relies on `memory_pipe`, and on `answers` for what is printed.
 #![tactic(auto)]
 
-ghost use Rattle.std.specs.Prelude.{◌≡◌, MatchResult};
-ghost use Rattle.stream.specs.Refusals.{number};
-
+use answers::Answer;
 use memory_pipe::MemoryOutputPipe;
-use std::{fmt, io};
-use stream::{OutputStream, StreamError};
-
-// What a call answered.
-#[derive(Clone, Copy)]
-enum Answer {
-    Accepted,
-    Count(usize),
-    // The refusal's number.
-    Refused(u8),
-}
-
-impl fmt::Display for Answer {
-    fn fmt<W: fmt::Write>(&self, f: &mut fmt::Formatter<W>) -> fmt::Result {
-        match *self {
-            Answer::Accepted => write!(f, "ok"),
-            Answer::Count(n) => write!(f, "{n}"),
-            Answer::Refused(number) => write!(f, "e {number}"),
-        }
-    }
-}
-
-fn accepted(answer: Result<(), StreamError>) -> Answer
-    ensures { MatchResult answer (λ _. result ≡ Answer.Accepted) (λ e. result ≡ Answer.Refused (number e)) }
-{
-    match answer {
-        Ok(()) => Answer::Accepted,
-        Err(e) => Answer::Refused(e.code()),
-    }
-}
-
-fn counted(answer: Result<usize, StreamError>) -> Answer
-    ensures { MatchResult answer (λ n. result ≡ Answer.Count n) (λ e. result ≡ Answer.Refused (number e)) }
-{
-    match answer {
-        Ok(n) => Answer::Count(n),
-        Err(e) => Answer::Refused(e.code()),
-    }
-}
+use std::io;
+use stream::OutputStream;
 
 fn write<S: OutputStream>(rt: &impl Print, stream: &mut S, bytes: &[u8]) -> io::Result<()> {
     let length = bytes.len();
-    let answer = accepted(stream.write(bytes));
+    let answer = Answer::from(stream.write(bytes));
     println!(rt; "write {length}: {answer}")
 }
 
 fn check_write<S: OutputStream>(rt: &impl Print, stream: &mut S) -> io::Result<()> {
-    let answer = counted(stream.check_write());
+    let answer = Answer::from(stream.check_write());
     println!(rt; "check_write: {answer}")
 }
 
 fn flush<S: OutputStream>(rt: &impl Print, stream: &mut S) -> io::Result<()> {
-    let answer = accepted(stream.flush());
+    let answer = Answer::from(stream.flush());
     println!(rt; "flush: {answer}")
 }
 

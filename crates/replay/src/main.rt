@@ -11,19 +11,16 @@ mod shared_stream;
 
 use answers::Answer;
 use hexadecimal::print_bytes;
+use script::Lines;
 use script::number::parse_number;
-use script::{next_line, parse_limits};
+use session::read_limits;
 use std::io::Read;
-use stream::Limits;
 
 const MOST_CAPACITY: usize = 4096;
 
 // The capacity in a first line of a pipe's script.
 fn parse_pipe(line: &[u8]) -> Option<usize> {
-    match parse_number(line.strip_prefix(b"pipe ")?) {
-        Some(capacity) if capacity <= MOST_CAPACITY => Some(capacity),
-        _ => None,
-    }
+    parse_number(line.strip_prefix(b"pipe ")?).filter(|capacity| *capacity <= MOST_CAPACITY)
 }
 
 // A script that does not begin answers with one line.
@@ -39,12 +36,9 @@ fn play(rt: &HostRuntime, lines: &[&[u8]]) -> anyhow::Result<()> {
     if let Some(capacity) = parse_pipe(*first) {
         return pipes::play(rt, capacity, rest);
     }
-    let Some((budget, handles)) = parse_limits(*first) else {
-        return refuse(rt, Answer::Misfit);
-    };
-    match Limits::new(budget, handles) {
+    match read_limits(*first) {
         Ok(limits) => shared_stream::play(rt, limits, rest),
-        Err(e) => refuse(rt, Answer::Refused(e.code())),
+        Err(answer) => refuse(rt, answer),
     }
 }
 
@@ -52,15 +46,13 @@ fn main(rt: HostRuntime) -> anyhow::Result<()> {
     let mut text = Vec::new(rt.alloc());
     rt.stdin().read_to_end(&mut text)?;
     let mut lines = Vec::new(rt.alloc());
-    let mut rest = text.as_slice();
-    while let Some((line, more)) = next_line(rest) {
+    for line in Lines::new(&text) {
         if line == b"=".as_slice() {
-            play(&rt, lines.as_slice())?;
+            play(&rt, &lines)?;
             lines.clear();
         } else {
             lines.push(line)?;
         }
-        rest = more;
     }
     Ok(())
 }

@@ -1,29 +1,16 @@
 // A script over a memory pipe: direct writes, check_write and flush.
 use crate::hexadecimal::print_bytes;
 use answers::Answer;
+use calls::Call;
 use memory_pipe::MemoryOutputPipe;
 use script::{Command, parse_command};
-use stream::{OutputStream, StreamError};
-
-fn accepted(res: Result<(), StreamError>) -> Answer {
-    match res {
-        Ok(()) => Answer::Accepted,
-        Err(e) => Answer::Refused(e.code()),
-    }
-}
-
-fn counted(res: Result<usize, StreamError>) -> Answer {
-    match res {
-        Ok(n) => Answer::Count(n),
-        Err(e) => Answer::Refused(e.code()),
-    }
-}
+use stream::OutputStream;
 
 fn answer_to(pipe: &mut MemoryOutputPipe, line: &[u8]) -> Answer {
     match parse_command(line) {
-        Some(Command::Write(bytes)) => accepted(pipe.write(bytes)),
-        Some(Command::CheckWrite) => counted(pipe.check_write()),
-        Some(Command::Flush) => accepted(pipe.flush()),
+        Some(Command::Call(Call::Write(bytes))) => pipe.write(bytes).into(),
+        Some(Command::Call(Call::CheckWrite)) => pipe.check_write().into(),
+        Some(Command::Call(Call::Flush)) => pipe.flush().into(),
         _ => Answer::Misfit,
     }
 }

@@ -1,18 +1,22 @@
 // A script over a shared stream, played call by call.
 use crate::hexadecimal::print_bytes;
+use answers::Answer;
 use calls::Call;
 use calls::perform::perform;
 use memory_writers::MemoryWriter;
 use planned_writer::PlannedWriter;
-use printing::print;
 use script_reading::reading::Reading;
-use script_reading::slot::Slot;
 use shared::AsyncStdoutStream;
 use stream::Limits;
 use worker_stream::{AsyncWriteStream, Turn};
 
-// No more turns follow one another: 4,096 bytes, 256 writes, a flush, and the turn that says idle.
-const MOST_TURNS: usize = 4354;
+// So many bytes and so many writes wait at most.
+const MOST_BYTES: usize = 4096;
+
+const MOST_WRITES: usize = 256;
+
+// No more turns follow one another: one for each byte and each write, a flush, and the turn that says idle.
+const MOST_TURNS: usize = MOST_BYTES + MOST_WRITES + 2;
 
 const WHOLE_POLL: &[u8] = b"T";
 
@@ -27,29 +31,20 @@ fn print_counts(rt: &impl Print, shared: &Shared) -> anyhow::Result<()> {
     Ok(())
 }
 
-fn print_word(rt: &impl Print, word: Turn, first: bool) -> anyhow::Result<()> {
-    let answer = print(calls::Answer::Turn(word));
-    if first {
-        print!(rt; "{answer}")?;
-    } else {
-        print!(rt; ", {answer}")?;
-    }
-    Ok(())
-}
-
 // One poll of a background task, as host turns.
 fn print_turns(rt: &impl Print, shared: &mut Shared) -> anyhow::Result<()> {
-    let mut first = true;
+    let mut separator = "";
     for _ in 0..MOST_TURNS {
-        let word = shared.turn();
-        if let Turn::Finished(0) = word {
+        let turn = shared.turn();
+        if turn == Turn::Finished(0) {
             continue;
         }
-        print_word(rt, word, first)?;
-        first = false;
-        match word {
+        let answer = Answer::from(turn);
+        print!(rt; "{separator}{answer}")?;
+        separator = ", ";
+        match turn {
             Turn::Finished(_) | Turn::Moved(_) | Turn::Flushed => {}
-            Turn::NotYet | Turn::Failed | Turn::Idle | Turn::Stopped => return Ok(()),
+            Turn::NotYet | Turn::Failed | Turn::Idle | Turn::Stopped => break,
         }
     }
     Ok(())
@@ -59,7 +54,7 @@ fn print_call(rt: &impl Print, shared: &mut Shared, line: &[u8], call: Call) -> 
     if line == WHOLE_POLL {
         return print_turns(rt, shared);
     }
-    let answer = print(perform(shared, call));
+    let answer = Answer::from(perform(shared, call));
     print!(rt; "{answer}")?;
     Ok(())
 }
@@ -81,14 +76,13 @@ pub fn play(rt: &HostRuntime, limits: Limits, lines: &[&[u8]]) -> anyhow::Result
         calls,
     } = reading;
     let mut shared = AsyncStdoutStream::new(limits, writer);
-    let mut next = 0;
-    for (line, slot) in lines.iter().zip(slots.iter()) {
-        match *slot {
-            Slot::Said(answer) => print!(rt; "{answer}")?,
-            Slot::Called => {
-                if let Some(call) = calls.get(next) {
+    let mut calls = calls.iter();
+    for (line, slot) in lines.iter().zip(&slots) {
+        match slot {
+            Some(answer) => print!(rt; "{answer}")?,
+            None => {
+                if let Some(call) = calls.next() {
                     print_call(rt, &mut shared, *line, *call)?;
-                    next += 1;
                 }
             }
         }

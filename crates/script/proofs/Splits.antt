@@ -1,29 +1,38 @@
 -- A text split at its first mark, and its first line. Assumes nothing.
-use Rattle.std.proofs.Common.{◌≡◌, ℕ, zero, suc, ◌+◌, ◌<◌, Bool, true, false, cond, eqb, List, [], ◌∷◌, length, get_or, take, drop, Some, None, Option, sym, refl, ap, ◌∙◌, add-one, arith, Bor, eq-eqb, ne_eqb, MatchOption}
-use native.Mathlib.Nat.{sub-zero}
+use Rattle.std.proofs.Common.{subst, ◌≡◌, ℕ, suc, ◌+◌, ◌<◌, ◌==◌, ⊎_elim, nat_lt, position, Bool, true, false, cond, eqb, List, [], ◌∷◌, length, take, drop, Some, None, Option, sym, refl, ap, ◌∙◌, add-one, arith, Bor, MatchOption}
 use Rattle.std.proofs.lemmas.Option.{MatchOption-at_some, MatchOption-at_none}
 use Rattle.std.proofs.lemmas.Slice.{between_to_end}
-use Rattle.std.specs.List.{between}
-use Rattle.std.specs.Option.{option_map}
+use Rattle.std.proofs.lemmas.Bool.{cases_Bool, lt-ltb}
+use Rattle.std.proofs.lemmas.Bool.Decides.{nat_tests}
+use Rattle.std.specs.List.{between, position_or_len}
+use Rattle.std.specs.Option.{option_map, unwrap_or}
 use Rattle.script.specs.Lines.{Parts, parts, split_at_mark, lines, onto, FirstLine}
 
-split_at_first : (m : ℕ) (text : List ℕ) (i : ℕ) → ((k : ℕ) → k < i → get_or text k 0 ≡ m → ⊥) → i < length text → get_or text i 0 ≡ m → split_at_mark m text ≡ Some (take i text, drop (i + 1) text)
-split_at_first m [] i before h e = absurd (omega arith)
-split_at_first m (b ∷ bs) zero before h e = rw (eq-eqb b m e)
-split_at_first m (b ∷ bs) (suc i) before h e =
-    let ih = split_at_first m bs i (λ k l. before (suc k) (omega arith)) (omega arith) e in
-    rw (ne_eqb b m (before 0 (omega arith)), ih, add-one, add-one)
+-- the parts where the first mark stands at i
+abbrev cut : List ℕ → ℕ → Parts
+cut text i = (take i text, drop (i + 1) text)
+
+cut_later : (b : ℕ) (bs : List ℕ) (at : ℕ) (found : Bool) → option_map (cut (b ∷ bs)) (cond found (Some (1 + at)) None) ≡ option_map (λ p. (b ∷ p.0, p.1)) (option_map (cut bs) (cond found (Some at) None))
+cut_later b bs at true = let e : 1 + at ≡ suc at = omega arith in rw (e, add-one, add-one) refl
+cut_later b bs at false = refl
+
+split_at_position : (m : ℕ) (text : List ℕ) → option_map (cut text) (position (λ b. b == m) text) ≡ split_at_mark m text
+split_at_position m [] = refl
+split_at_position m (b ∷ bs) =
+    let at = position_or_len (λ c. c == m) bs in
+    let ih = split_at_position m bs in
+    ⊎_elim
+    (λ (mark : (b == m) ≡ true). rw (mark, lt-ltb 0 (length (b ∷ bs)) (omega arith)) refl)
+    (λ (other : (b == m) ≡ false).
+    let later : nat_lt (1 + at) (length (b ∷ bs)) ≡ nat_lt at (length bs) = grind (arith, nat_tests) in
+    rw (other, later, ← ih) (cut_later b bs at _))
+    (cases_Bool (b == m))
 
 -- the parts as slices of the text
-pub split_at : (m : ℕ) (text : List ℕ) (i : ℕ) → ((k : ℕ) → k < i → get_or text k 0 ≡ m → ⊥) → i < length text → get_or text i 0 ≡ m → Some (between 0 i text, between (i + 1) (length text) text) ≡ split_at_mark m text
-split_at m text i before h e =
-    rw (between_to_end text (i + 1) (length text) (omega arith), sub-zero) (sym (split_at_first m text i before h e))
-
-pub split_none : (m : ℕ) (text : List ℕ) → ((k : ℕ) → k < length text → get_or text k 0 ≡ m → ⊥) → split_at_mark m text ≡ None
-split_none m [] before = refl
-split_none m (b ∷ bs) before =
-    let ih = split_none m bs (λ k l. before (suc k) (omega arith)) in
-    rw (ne_eqb b m (before 0 (omega arith)), ih)
+pub split_at : (m : ℕ) (text : List ℕ) (r : Option ℕ) → r ≡ position (λ b. b == m) text → option_map (λ i. (take i text, between (i + 1) (length text) text)) r ≡ split_at_mark m text
+split_at m text None e = ap (option_map _) e ∙ split_at_position m text
+split_at m text (Some i) e =
+    rw (between_to_end text (i + 1) (length text) (omega arith)) (ap (option_map _) e ∙ split_at_position m text)
 
 first_line_longer : (c : ℕ) (cs : List ℕ) (is_newline : Bool) (split : Option Parts) → MatchOption split (0 < length cs → FirstLine cs cs []) (λ p. FirstLine cs p.0 p.1) → lines (c ∷ cs) ≡ cond is_newline ([] ∷ lines cs) (onto c (lines cs)) → MatchOption {T = Parts} (cond is_newline (Some ([], cs)) (option_map (λ p. (c ∷ p.0, p.1)) split)) (0 < length (c ∷ cs) → FirstLine (c ∷ cs) (c ∷ cs) []) (λ p. FirstLine (c ∷ cs) p.0 p.1)
 first_line_longer c cs true split h e = record { value = e; rest = refl; shorter = omega arith }
@@ -41,6 +50,7 @@ pub first_line : (text : List ℕ) → MatchOption (split_at_mark 10 text) (0 < 
 first_line [] = λ some. absurd (omega arith)
 first_line (c ∷ cs) = first_line_longer c cs (eqb c 10) (split_at_mark 10 cs) (first_line cs) refl
 
-pub ended_line : (text : List ℕ) (r : Option (Bor (List ℕ) × Bor (List ℕ))) → option_map parts r ≡ split_at_mark 10 text → MatchOption r (0 < length text → FirstLine text text []) (λ p. FirstLine text p.0.now p.1.now)
-ended_line text None e = MatchOption-at_none _ _ (sym e) (first_line text)
-ended_line text (Some p) e = MatchOption-at_some _ _ _ (sym e) (first_line text)
+pub first_or_all : (text : List ℕ) (ended : Option (Bor (List ℕ) × Bor (List ℕ))) (all : Bor (List ℕ) × Bor (List ℕ)) → option_map parts ended ≡ split_at_mark 10 text → 0 < length text → parts all ≡ (text, []) → let line = unwrap_or ended all in FirstLine text line.0.now line.1.now
+first_or_all text None all e some whole =
+    subst (λ p. FirstLine text p.0 p.1) (sym whole) (MatchOption-at_none _ _ (sym e) (first_line text) some)
+first_or_all text (Some p) all e some whole = MatchOption-at_some _ _ _ (sym e) (first_line text)

@@ -3,3 +3,4 @@ pub mod Numbers
 pub mod Commands
 pub mod Parsing
 pub mod View
+pub mod LinesOf

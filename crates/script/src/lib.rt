@@ -7,5 +7,5 @@ pub mod number;
 pub mod parse;
 
 pub use command::Command;
-pub use lines::next_line;
+pub use lines::{Lines, next_line};
 pub use parse::{parse_command, parse_limits};

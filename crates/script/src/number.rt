@@ -1,33 +1,26 @@
 // Numbers as a script writes them. Relies on nothing.
-ghost use Rattle.std.specs.Prelude.{◌≡◌, ◌≤◌, length, if◌then◌else◌, Some, None};
+ghost use Rattle.std.specs.Prelude.{◌≡◌};
+ghost use Rattle.std.specs.List.{list_all};
+ghost use Rattle.std.specs.Char.{is_ascii_digit};
 ghost use Rattle.script.specs.Numbers.{number};
-ghost use Rattle.std.specs.Str.Parse.{digits_value as value_in};
-ghost use Rattle.std.specs.Str.{all_ascii_digits};
 
 // With so many digits no number is too large for its type.
 const MOST_DIGITS: usize = 9;
 
-// The number that the digits write, where there is nothing but digits.
-fn digits_value(text: &[u8]) -> Option<usize>
-    requires { length text.now ≤ 9 }
-    ensures value { result ≡ (if all_ascii_digits text.now then Some (value_in 10 text.now) else None) }
+// There is nothing but digits.
+fn all_digits(text: &[u8]) -> bool
+    ensures value { result ≡ list_all is_ascii_digit text.now }
 {
-    let mut value: usize = 0;
-    for byte in text {
-        if !byte.is_ascii_digit() {
-            return None;
-        }
-        value = 10 * value + usize::from(*byte - b'0');
-    }
-    Some(value)
+    text.iter().all(u8::is_ascii_digit)
 }
 
 // The number that 1 to 9 digits write.
+#[tactic(auto, using(crate::proofs::Readings::no_number, crate::proofs::Readings::digits_are_text, crate::proofs::Readings::number_parsed))]
 pub fn parse_number(text: &[u8]) -> Option<usize>
     ensures value { result ≡ number text.now }
 {
-    if text.is_empty() || text.len() > MOST_DIGITS {
+    if text.len() > MOST_DIGITS || !all_digits(text) {
         return None;
     }
-    digits_value(text)
+    str::from_utf8(text).ok()?.parse().ok()
 }

@@ -8,29 +8,24 @@ ghost use Rattle.std.specs.Option.{option_map};
 use crate::command::Command;
 use crate::lines::split_once;
 use crate::number::parse_number;
+use handles::Call;
 use planned_writer::PlanEntry;
 
 // A plan entry takes at most so many bytes.
-const MOST_BYTES: usize = 4096;
-
-// The largest code of a device.
-const MOST_CODE: usize = 255;
+const MOST_BYTES: u16 = 4096;
 
 // What follows a blank.
 fn after_blank(text: &[u8]) -> Option<&[u8]>
     ensures value { option_map (λ x. x.now) result ≡ past_blank text.now }
 {
-    match text {
-        [b' ', rest @ ..] => Some(rest),
-        _ => None,
-    }
+    text.strip_prefix(b" ")
 }
 
 // A command that is its letter alone.
 fn parse_alone<'a>(command: Command<'a>, rest: &[u8]) -> Option<Command<'a>>
     ensures value { option_map view result ≡ alone (view command.entry) rest.now }
 {
-    if rest.is_empty() { Some(command) } else { None }
+    rest.is_empty().then_some(command)
 }
 
 // One number after a blank, and nothing else.
@@ -40,13 +35,20 @@ fn parse_argument(rest: &[u8]) -> Option<usize>
     parse_number(after_blank(rest)?)
 }
 
-// The same, where the number is at most `limit`.
-fn parse_argument_at_most(limit: usize, rest: &[u8]) -> Option<usize>
-    ensures value { result ≡ at_most limit (argument rest.now) }
-    ensures bound { IfSome result (λ n. n ≤ limit) }
+// How many bytes a plan entry takes.
+fn parse_most(rest: &[u8]) -> Option<u16>
+    ensures value { result ≡ at_most 4096 (argument rest.now) }
 {
-    let number = parse_argument(rest)?;
-    if number <= limit { Some(number) } else { None }
+    u16::try_from(parse_argument(rest)?)
+        .ok()
+        .filter(|most| *most <= MOST_BYTES)
+}
+
+// The code of a device.
+fn parse_code(rest: &[u8]) -> Option<u8>
+    ensures value { result ≡ at_most 255 (argument rest.now) }
+{
+    u8::try_from(parse_argument(rest)?).ok()
 }
 
 // A handle's number between blanks, and then the bytes.
@@ -54,27 +56,26 @@ fn parse_handle_write(rest: &[u8]) -> Option<Command<'_>>
     ensures value { option_map view result ≡ handle_write_of rest.now }
 {
     let (handle, bytes) = split_once(after_blank(rest)?, b' ')?;
-    Some(Command::HandleWrite(parse_number(handle)?, bytes))
+    Some(Command::Call(Call::PollWrite(parse_number(handle)?, bytes)))
 }
 
 // The command that the letter and the rest of a line say.
+#[tactic(auto, using(crate::proofs::Forms::none_without_letter))]
 fn parse_by_letter(letter: char, rest: &[u8]) -> Option<Command<'_>>
     ensures value { option_map view result ≡ form_of forms letter rest.now }
 {
     match letter {
-        'w' => Some(Command::Write(after_blank(rest)?)),
-        'c' => parse_alone(Command::CheckWrite, rest),
-        'f' => parse_alone(Command::Flush, rest),
-        'x' => parse_alone(Command::Cancel, rest),
-        't' => parse_alone(Command::Turn, rest),
+        'w' => Some(Command::Call(Call::Write(after_blank(rest)?))),
+        'c' => parse_alone(Command::Call(Call::CheckWrite), rest),
+        'f' => parse_alone(Command::Call(Call::Flush), rest),
+        'x' => parse_alone(Command::Call(Call::Cancel), rest),
+        't' => parse_alone(Command::Call(Call::Turn), rest),
         'W' => parse_handle_write(rest),
-        'F' => Some(Command::HandleFlush(parse_argument(rest)?)),
-        'D' => Some(Command::HandleDrop(parse_argument(rest)?)),
-        'p' => Some(Command::Plan(PlanEntry::AtMost(
-            parse_argument_at_most(MOST_BYTES, rest)? as u16,
-        ))),
+        'F' => Some(Command::Call(Call::PollFlush(parse_argument(rest)?))),
+        'D' => Some(Command::Call(Call::DropHandle(parse_argument(rest)?))),
+        'p' => Some(Command::Plan(PlanEntry::AtMost(parse_most(rest)?))),
         'q' => parse_alone(Command::Plan(PlanEntry::NotYet), rest),
-        'r' => Some(Command::Plan(PlanEntry::Fail(parse_argument_at_most(MOST_CODE, rest)? as u8))),
+        'r' => Some(Command::Plan(PlanEntry::Fail(parse_code(rest)?))),
         _ => None,
     }
 }
@@ -83,10 +84,8 @@ fn parse_by_letter(letter: char, rest: &[u8]) -> Option<Command<'_>>
 pub fn parse_command(line: &[u8]) -> Option<Command<'_>>
     ensures value { option_map view result ≡ parsed line.now }
 {
-    match line {
-        [letter, rest @ ..] => parse_by_letter(char::from(*letter), rest),
-        [] => None,
-    }
+    let (letter, rest) = line.split_first()?;
+    parse_by_letter(char::from(*letter), rest)
 }
 
 // Budget and number of handles, which the first line gives.

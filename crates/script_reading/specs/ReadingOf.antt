@@ -5,7 +5,7 @@ use Rattle.std.specs.Prelude.{map, vec_items}
 use Rattle.memory_writers.specs.declared.memory.MemoryWriter.{MemoryWriter}
 use Rattle.planned_writer.specs.declared.planned.PlannedWriter.{PlannedWriter}
 use Rattle.planned_writer.specs.Planned.{planned_view}
-use Rattle.calls.specs.Calls.{call_view}
+use Rattle.handles.specs.Calls.{call_view}
 use Rattle.script_reading.specs.declared.reading.Reading.{Reading}
 use Rattle.script_reading.specs.Reading.{WriterView, Read}
 

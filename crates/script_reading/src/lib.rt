@@ -2,7 +2,5 @@
 #![tactic(auto)]
 
 pub mod reading;
-pub mod slot;
 
 pub use reading::Reading;
-pub use slot::Slot;

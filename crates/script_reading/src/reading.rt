@@ -1,13 +1,14 @@
-// A script's lines, read into a plan and a list of calls. Relies on `script`, `answers` and `calls`.
-use crate::slot::Slot;
-use calls::Call;
+// A script's lines, read into a plan and a list of calls. Relies on `script`, `answers` and `handles`.
+use answers::Answer;
+use handles::Call;
 use memory_writers::memory::MemoryWriter;
 use planned_writer::planned::PlannedWriter;
 
 #[derive(Drop)]
 pub struct Reading<'a> {
     pub writer: PlannedWriter<MemoryWriter>,
-    pub slots: Vec<Slot>,
+    // What each line prints: an answer said when it was read, or `None` where the next call of `calls` answers.
+    pub slots: Vec<Option<Answer>>,
     pub calls: Vec<Call<'a>>,
 }
 

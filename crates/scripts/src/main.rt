@@ -1,18 +1,7 @@
 // Plays each recorded script and prints its answers under its name.
 #![tactic(auto)]
 
-use session::run_script;
-use std::fs;
-
-fn play(rt: &HostRuntime, path: &str) -> anyhow::Result<()> {
-    let text = fs::read(rt, path)?;
-    println!(rt; "{path}")?;
-    let answers = run_script(rt.alloc(), text.as_slice())?;
-    for answer in answers.iter() {
-        println!(rt; "{answer}")?;
-    }
-    Ok(())
-}
+use playing::play_file;
 
 fn main(rt: HostRuntime) -> anyhow::Result<()> {
     for path in [
@@ -26,7 +15,7 @@ fn main(rt: HostRuntime) -> anyhow::Result<()> {
         "fault-while-waiting.script",
         "cancel-while-held.script",
     ] {
-        play(&rt, path)?;
+        play_file(&rt, path)?;
     }
     Ok(())
 }

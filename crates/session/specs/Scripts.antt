@@ -1,8 +1,10 @@
 -- What a whole script prints. Assumes nothing.
 --   Played          the lines after a good first line: their calls are run, and each line prints what was said or what its call answered
+--   NotBegun        the one answer of a script whose first line gives no limits, or limits that are refused
 --   ScriptAnswers   a whole script, by its lines
 --   NotRefused      the first line gives limits that are not refused
 --   OneEach         after a good first line each line has exactly one answer
+--   ScriptPrints    the text that a script prints: its answers, with a newline after each
 use Rattle.std.specs.Prelude.{◌≡◌, ℕ, List, [], ◌∷◌, length, Some, None, Option}
 use Rattle.memory_writers.specs.Stores.{MemoryWrites, AreaFlushes}
 use Rattle.planned_writer.specs.Planned.{PlannedWrites, PlannedFlushes}
@@ -12,6 +14,7 @@ use Rattle.worker_stream.specs.WorkerView.{WorkerView}
 use Rattle.promises.specs.SharedView.{SharedView}
 use Rattle.calls.specs.declared.call.Answer.{Answer as Reply}
 use Rattle.calls.specs.Running.{Ran}
+use Rattle.answers.specs.Answers.{answer_lines}
 use Rattle.answers.specs.declared.answer.Answer.{Answer}
 use Rattle.answers.specs.declared.answer.Answer.TheVariants.{Refused, Misfit}
 use Rattle.script.specs.Parsing.{limits}
@@ -32,6 +35,14 @@ abbrev pub AfterFirst : Option (ℕ × ℕ) → List (List ℕ) → List Answer 
 AfterFirst None more answers = answers ≡ Misfit ∷ []
 AfterFirst (Some (budget, handles)) more answers = PlayedIf (refusal budget handles) budget handles more answers
 
+abbrev pub RefusedIf : Option LimitsError → Answer → Type 0
+RefusedIf None answer = ⊥
+RefusedIf (Some e) answer = answer ≡ Refused (number e)
+
+abbrev pub NotBegun : Option (ℕ × ℕ) → Answer → Type 0
+NotBegun None answer = answer ≡ Misfit
+NotBegun (Some (budget, handles)) answer = RefusedIf (refusal budget handles) answer
+
 abbrev pub ScriptAnswers : List (List ℕ) → List Answer → Type 0
 ScriptAnswers [] answers = answers ≡ Misfit ∷ []
 ScriptAnswers (first ∷ more) answers = AfterFirst (limits first) more answers
@@ -43,3 +54,9 @@ NotRefused (Some (budget, handles)) = refusal budget handles ≡ None
 abbrev pub OneEach : List (List ℕ) → List Answer → Type 0
 OneEach [] answers = length answers ≡ 1
 OneEach (first ∷ more) answers = NotRefused (limits first) → length answers ≡ length more
+
+pub record ScriptPrints (ls : List (List ℕ)) (text : List ℕ) : Type 0 where
+  pub answers : List Answer
+  pub answered : ScriptAnswers ls answers
+  pub each : OneEach ls answers
+  pub printed : text ≡ answer_lines answers

@@ -1,19 +1,22 @@
 // A whole script: its first line, the calls of the others, and one answer for each line. Relies on `run`, which keeps the promises.
-ghost use Rattle.std.specs.Prelude.{◌≡◌, List, [], ◌∷◌, drop, IfOk};
+ghost use Rattle.std.specs.Prelude.{◌≡◌, List, [], ◌∷◌, Option, IfOk};
+ghost use Rattle.std.specs.Slice.Iter.{iter_rest};
 ghost use Rattle.script.specs.Lines.{lines};
-ghost use Rattle.script_reading.specs.declared.slot.Slot.{Slot};
+ghost use Rattle.answers.specs.declared.answer.Answer.{Answer};
 ghost use Rattle.script_reading.specs.Reading.{lines_read, unread};
 ghost use Rattle.script_reading.specs.ReadingOf.{read_of};
 ghost use Rattle.session.specs.Merging.{merged};
-ghost use Rattle.session.specs.Scripts.{Played, ScriptAnswers, OneEach};
+ghost use Rattle.session.specs.Scripts.{Played, ScriptAnswers, OneEach, ScriptPrints};
+ghost use Rattle.std.specs.String.{string_bytes};
 
-use answers::Answer;
+use crate::first_line::read_limits;
+use answers::{Answer, AnswerLines};
 use calls::run::run;
 use printing::print;
-use script::{next_line, parse_limits};
+use script::{Lines, next_line};
 use script_reading::reading::Reading;
-use script_reading::slot::Slot;
 use std::alloc::{AllocError, Global};
+use std::slice::Iter;
 use stream::Limits;
 
 // Reads the lines after the first.
@@ -21,40 +24,34 @@ fn read_lines<'a>(heap: Global, text: &'a [u8]) -> Result<Reading<'a>, AllocErro
     ensures { IfOk result (λ x. read_of x ≡ lines_read unread (lines text.now)) }
 {
     let mut reading = Reading::new(heap)?;
-    let mut rest = text;
-    while let Some((line, more)) = next_line(rest) {
+    for line in Lines::new(text) {
         reading.read(line)?;
-        rest = more;
     }
     Ok(reading)
 }
 
-// What a line prints; the replies before `next` are printed already.
-fn answer_of(slot: Slot, replies: &[calls::Answer], next: &mut usize) -> Answer
-    ensures { (more : List Slot) → merged (slot ∷ more) (drop next.old replies.now) ≡ result ∷ merged more (drop next.new replies.now) }
+// What a line prints: what was said when it was read, or else the next reply.
+fn answer_of(slot: Option<Answer>, replies: &mut Iter<'_, calls::Answer>) -> Answer
+    ensures { (more : List (Option Answer)) → merged (slot ∷ more) (iter_rest replies.old) ≡ result ∷ merged more (iter_rest replies.new) }
 {
     match slot {
-        Slot::Said(answer) => answer,
-        Slot::Called => {
-            let at = *next;
-            if at < replies.len() {
-                *next = at + 1;
-                return print(replies[at]);
-            }
-            Answer::Misfit
-        }
+        Some(answer) => answer,
+        None => replies.next().map_or(Answer::Misfit, |reply| print(*reply)),
     }
 }
 
 // What is printed: what was said, and the replies in their order.
-fn merge(heap: Global, slots: &[Slot], replies: &[calls::Answer]) -> Result<Vec<Answer>, AllocError>
+fn merge(
+    heap: Global,
+    slots: &[Option<Answer>],
+    replies: &[calls::Answer],
+) -> Result<Vec<Answer>, AllocError>
     ensures { IfOk result (λ v. v.items ≡ merged slots.now replies.now) }
 {
+    let mut unprinted = replies.iter();
     let mut answers = Vec::new(heap);
-    let mut next = 0;
     for slot in slots {
-        let answer = answer_of(*slot, replies, &mut next);
-        answers.push(answer)?;
+        answers.push(answer_of(*slot, &mut unprinted))?;
     }
     Ok(answers)
 }
@@ -63,41 +60,35 @@ fn merge(heap: Global, slots: &[Slot], replies: &[calls::Answer]) -> Result<Vec<
 fn play(heap: Global, limits: Limits, text: &[u8]) -> Result<Vec<Answer>, AllocError>
     ensures { IfOk result (λ v. Played limits.budget limits.handles (lines_read unread (lines text.now)) v.items) }
 {
-    let reading = read_lines(heap, text)?;
     let Reading {
         writer,
         slots,
         calls,
-    } = reading;
+    } = read_lines(heap, text)?;
     let room = Vec::with_capacity(heap, calls.len())?;
-    match run(limits, writer, calls.as_slice(), room) {
-        Ok(outcome) => merge(heap, slots.as_slice(), outcome.answers.as_slice()),
-        Err(_) => unreachable(),
-    }
-}
-
-// The one answer of a script that does not begin.
-fn only(heap: Global, answer: Answer) -> Result<Vec<Answer>, AllocError>
-    ensures { IfOk result (λ v. v.items ≡ answer ∷ []) }
-{
-    let mut answers = Vec::new(heap);
-    answers.push(answer)?;
-    Ok(answers)
+    let outcome = run(limits, writer, &calls, room).unwrap();
+    merge(heap, &slots, &outcome.answers)
 }
 
 // What a script prints, one answer a line.
+#[tactic(auto, using(crate::proofs::Playing::one_each))]
 pub fn run_script(heap: Global, text: &[u8]) -> Result<Vec<Answer>, AllocError>
     ensures answers { IfOk result (λ v. ScriptAnswers (lines text.now) v.items) }
     ensures each { IfOk result (λ v. OneEach (lines text.now) v.items) }
 {
     let Some((first, rest)) = next_line(text) else {
-        return only(heap, Answer::Misfit);
+        return Ok(vec![in heap; Answer::Misfit]?);
     };
-    let Some((budget, handles)) = parse_limits(first) else {
-        return only(heap, Answer::Misfit);
-    };
-    match Limits::new(budget, handles) {
+    match read_limits(first) {
         Ok(limits) => play(heap, limits, rest),
-        Err(e) => only(heap, Answer::Refused(e.code())),
+        Err(answer) => Ok(vec![in heap; answer]?),
     }
+}
+
+// The text that a script prints: its answers, one a line.
+pub fn script_text(heap: Global, text: &[u8]) -> Result<String, AllocError>
+    ensures { IfOk result (λ s. ScriptPrints (lines text.now) (string_bytes s)) }
+{
+    let answers = run_script(heap, text)?;
+    format!(in heap; "{}", AnswerLines(&answers))
 }

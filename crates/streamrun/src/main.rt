@@ -1,19 +1,16 @@
 // Reads a script from standard input, plays it, and prints one line for each answer.
 #![tactic(auto)]
 
-use session::run_script;
+use session::script_text;
 use std::io::Read;
 
 // At most this much of a script is read.
 const MOST: u64 = 32768;
 
 fn main(rt: HostRuntime) -> anyhow::Result<()> {
-    let heap = rt.alloc();
-    let mut text = Vec::new(heap);
+    let mut text = Vec::new(rt.alloc());
     rt.stdin().take(MOST).read_to_end(&mut text)?;
-    let answers = run_script(heap, text.as_slice())?;
-    for answer in answers.iter() {
-        println!(rt; "{answer}")?;
-    }
+    let printed = script_text(rt.alloc(), &text)?;
+    print!(rt; "{printed}")?;
     Ok(())
 }

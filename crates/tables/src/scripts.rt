@@ -1,10 +1,12 @@
 // Lines with the commands that they say, and answers with their text.
-use answers::Answer;
+use answers::{Answer, AnswerLines};
 use canonical_form::canonical_command;
+use handles::Call;
 use planned_writer::PlanEntry;
 use script::{Command, next_line, parse_command, parse_limits};
 use std::process::Abort;
 use std::test::Fail;
+use stream::StreamError;
 use writer::Fault;
 
 fn reads(rt: &impl Abort, line: &[u8], command: Command) {
@@ -21,13 +23,17 @@ fn misfits(rt: &impl Abort, line: &[u8]) {
 
 #[test]
 fn commands_are_read(rt: HostRuntime) {
-    reads(&rt, b"w a b", Command::Write(b"a b"));
-    reads(&rt, b"w ", Command::Write(b""));
-    reads(&rt, b"c", Command::CheckWrite);
-    reads(&rt, b"t", Command::Turn);
-    reads(&rt, b"W 007 a b", Command::HandleWrite(7, b"a b"));
-    reads(&rt, b"W 0 ", Command::HandleWrite(0, b""));
-    reads(&rt, b"D 999999999", Command::HandleDrop(999999999));
+    reads(&rt, b"w a b", Command::Call(Call::Write(b"a b")));
+    reads(&rt, b"w ", Command::Call(Call::Write(b"")));
+    reads(&rt, b"c", Command::Call(Call::CheckWrite));
+    reads(&rt, b"t", Command::Call(Call::Turn));
+    reads(&rt, b"W 007 a b", Command::Call(Call::PollWrite(7, b"a b")));
+    reads(&rt, b"W 0 ", Command::Call(Call::PollWrite(0, b"")));
+    reads(
+        &rt,
+        b"D 999999999",
+        Command::Call(Call::DropHandle(999999999)),
+    );
     reads(&rt, b"p 4096", Command::Plan(PlanEntry::AtMost(4096)));
     reads(&rt, b"r 255", Command::Plan(PlanEntry::Fail(255)));
 }
@@ -63,9 +69,7 @@ fn limits_are_two_numbers(rt: HostRuntime) {
 #[test]
 fn lines_end_at_newlines(rt: HostRuntime) -> Result<(), Fail> {
     let text: &[u8] = b"a\r\n\nb\n";
-    let Some((first, rest)) = next_line(text) else {
-        return Err(Fail::new("no line"));
-    };
+    let (first, rest) = next_line(text).ok_or("no line")?;
     assert!(rt; first == b"a\r".as_slice());
     assert!(rt; rest == b"\nb\n".as_slice());
     assert!(rt; next_line(b"").is_none());
@@ -88,10 +92,25 @@ fn answers_are_printed(rt: HostRuntime) -> Result<(), Fail> {
 }
 
 #[test]
+fn results_are_printed_one_a_line(rt: HostRuntime) -> Result<(), Fail> {
+    let accepted: Result<(), StreamError> = Ok(());
+    let permit: Result<usize, StreamError> = Ok(12);
+    let closed: Result<usize, StreamError> = Err(StreamError::Closed);
+    let failed: Result<(), StreamError> = Err(StreamError::LastOperationFailed(Fault::WriteZero));
+    let answers = [
+        Answer::from(accepted),
+        Answer::from(permit),
+        Answer::from(closed),
+        Answer::from(failed),
+    ];
+    let text = format!(in rt.alloc(); "{}", AnswerLines(&answers))?;
+    assert!(rt; text.as_str() == "ok\n12\ne 21\ne 20 zero\n");
+    Ok(())
+}
+
+#[test]
 fn canonical_text_is_read_back(rt: HostRuntime) -> Result<(), Fail> {
-    let Some(command) = parse_command(b"W 007 a") else {
-        return Err(Fail::new("misfit"));
-    };
+    let command = parse_command(b"W 007 a").ok_or("misfit")?;
     let text = canonical_command(rt.alloc(), &command)?;
     assert!(rt; text.as_slice() == b"W 7 a".as_slice());
     Ok(())

@@ -6,17 +6,10 @@ use shared::AsyncStdoutStream;
 use std::test::Fail;
 use stream::Limits;
 
-fn two_handles() -> Result<Limits, Fail> {
-    match Limits::new(2, 2) {
-        Ok(limits) => Ok(limits),
-        Err(_) => Err(Fail::new("limits")),
-    }
-}
-
 #[test]
 fn direct_calls_wait_for_the_lock(rt: HostRuntime) -> Result<(), Fail> {
     let memory = vec![in rt.alloc(); 0u8; 8]?;
-    let mut shared = AsyncStdoutStream::new(two_handles()?, MemoryWriter::new(memory));
+    let mut shared = AsyncStdoutStream::new(Limits::new(2, 2)?, MemoryWriter::new(memory));
     assert_eq!(rt; shared.poll_write(0, b"abc"), Ok(Poll::Ready(2)));
     assert_eq!(rt; shared.poll_write(1, b"d"), Ok(Poll::Pending));
     assert_eq!(rt; shared.check_write(), Err(DirectError::Refused(LockHeld)));
@@ -30,11 +23,20 @@ fn direct_calls_wait_for_the_lock(rt: HostRuntime) -> Result<(), Fail> {
 #[test]
 fn no_such_handle(rt: HostRuntime) -> Result<(), Fail> {
     let memory = vec![in rt.alloc(); 0u8; 8]?;
-    let mut shared = AsyncStdoutStream::new(two_handles()?, MemoryWriter::new(memory));
-    assert_eq!(rt; shared.poll_flush(2), Err(HandleError::Refused(NoSuchHandle)));
-    assert_eq!(rt; shared.handle_state(2), Err(HandleError::Refused(NoSuchHandle)));
+    let mut shared = AsyncStdoutStream::new(Limits::new(2, 2)?, MemoryWriter::new(memory));
+    assert_eq!(rt;
+        shared.poll_flush(2),
+        Err(HandleError::Refused(NoSuchHandle))
+    );
+    assert_eq!(rt;
+        shared.handle_state(2),
+        Err(HandleError::Refused(NoSuchHandle))
+    );
     assert_eq!(rt; shared.drop_handle(1), Ok(()));
-    assert_eq!(rt; shared.poll_write(1, b""), Err(HandleError::Refused(NoSuchHandle)));
+    assert_eq!(rt;
+        shared.poll_write(1, b""),
+        Err(HandleError::Refused(NoSuchHandle))
+    );
     assert_eq!(rt; shared.handle_state(1), Ok(HandleState::Dropped));
     Ok(())
 }
@@ -42,7 +44,7 @@ fn no_such_handle(rt: HostRuntime) -> Result<(), Fail> {
 #[test]
 fn handles_share_a_pipe(rt: HostRuntime) -> Result<(), Fail> {
     let buffer = vec![in rt.alloc(); 0u8; 3]?;
-    let mut shared = AsyncStdoutStream::over(two_handles()?, MemoryOutputPipe::new(buffer));
+    let mut shared = AsyncStdoutStream::over(Limits::new(2, 2)?, MemoryOutputPipe::new(buffer));
     assert_eq!(rt; shared.poll_write(0, b"ab"), Ok(Poll::Ready(2)));
     assert_eq!(rt; shared.poll_flush(0), Ok(Poll::Ready(())));
     assert_eq!(rt; shared.poll_write(1, b"cde"), Ok(Poll::Ready(1)));

@@ -8,22 +8,20 @@ use stream::{Limits, OutputStream, Pollable, StreamError};
 use worker_stream::write_stream::{AsyncWriteStream, Turn};
 use writer::{Fault, Writer};
 
-fn refused_limits(budget: usize, handles: usize) -> u8 {
-    match Limits::new(budget, handles) {
-        Ok(_) => 0,
-        Err(e) => e.code(),
-    }
+// The number of the refusal, if there is one.
+fn refused_limits(budget: usize, handles: usize) -> Option<u8> {
+    Limits::new(budget, handles).err().map(|e| e.code())
 }
 
 #[test]
 fn limits(rt: HostRuntime) {
     let table = [
-        (0, 1, 0),
-        (4096, 16, 0),
-        (4097, 16, 1),
-        (4097, 0, 1),
-        (4096, 0, 2),
-        (4096, 17, 2),
+        (0, 1, None),
+        (4096, 16, None),
+        (4097, 16, Some(1)),
+        (4097, 0, Some(1)),
+        (4096, 0, Some(2)),
+        (4096, 17, Some(2)),
     ];
     for (budget, handles, code) in table {
         assert_eq!(rt; refused_limits(budget, handles), code);
@@ -47,34 +45,27 @@ fn plan_of_33(rt: HostRuntime) -> Result<(), Fail> {
     for _ in 0..32 {
         assert!(rt; writer.plan(PlanEntry::NotYet).is_ok());
     }
-    match writer.plan(PlanEntry::NotYet) {
-        Ok(()) => Err(Fail::new("a 33rd entry")),
-        Err(full) => {
-            assert_eq!(rt; full.code(), 3);
-            Ok(())
-        }
-    }
+    assert_eq!(rt;
+        writer.plan(PlanEntry::NotYet).err().map(|full| full.code()),
+        Some(3)
+    );
+    Ok(())
 }
 
-fn code(r: Result<(), StreamError>) -> u8 {
-    match r {
-        Ok(()) => 0,
-        Err(e) => e.code(),
-    }
+// The number of the refusal, if there is one.
+fn code(outcome: Result<(), StreamError>) -> Option<u8> {
+    outcome.err().map(|e| e.code())
 }
 
 #[test]
 fn writes(rt: HostRuntime) -> Result<(), Fail> {
-    let Ok(limits) = Limits::new(4, 1) else {
-        return Err(Fail::new("limits"));
-    };
-    let mut stream = AsyncWriteStream::new(limits, planned(rt.alloc(), None)?);
-    assert_eq!(rt; code(stream.write(b"abcde")), 12);
-    assert_eq!(rt; code(stream.write(b"abcd")), 0);
-    assert_eq!(rt; code(stream.write(b"a")), 12);
-    assert_eq!(rt; code(stream.flush()), 0);
-    assert_eq!(rt; code(stream.write(b"")), 11);
-    assert_eq!(rt; code(stream.write(b"abcde")), 11);
+    let mut stream = AsyncWriteStream::new(Limits::new(4, 1)?, planned(rt.alloc(), None)?);
+    assert_eq!(rt; code(stream.write(b"abcde")), Some(12));
+    assert_eq!(rt; code(stream.write(b"abcd")), None);
+    assert_eq!(rt; code(stream.write(b"a")), Some(12));
+    assert_eq!(rt; code(stream.flush()), None);
+    assert_eq!(rt; code(stream.write(b"")), Some(11));
+    assert_eq!(rt; code(stream.write(b"abcde")), Some(11));
     assert!(rt; !stream.ready());
     assert_eq!(rt; stream.free_budget(), 0);
     assert_eq!(rt; stream.unfinished(), 1);
@@ -83,19 +74,19 @@ fn writes(rt: HostRuntime) -> Result<(), Fail> {
 
 #[test]
 fn fault_is_told_once(rt: HostRuntime) -> Result<(), Fail> {
-    let Ok(limits) = Limits::new(4, 1) else {
-        return Err(Fail::new("limits"));
-    };
-    let mut stream = AsyncWriteStream::new(limits, planned(rt.alloc(), Some(PlanEntry::Fail(5)))?);
-    assert_eq!(rt; code(stream.write(b"ab")), 0);
+    let mut stream = AsyncWriteStream::new(
+        Limits::new(4, 1)?,
+        planned(rt.alloc(), Some(PlanEntry::Fail(5)))?,
+    );
+    assert_eq!(rt; code(stream.write(b"ab")), None);
     assert_eq!(rt; stream.turn(), Turn::Failed);
     assert!(rt; stream.ready());
     assert_eq!(rt;
         stream.flush(),
         Err(StreamError::LastOperationFailed(Fault::Device(5)))
     );
-    assert_eq!(rt; code(stream.flush()), 21);
-    assert_eq!(rt; code(stream.write(b"")), 21);
+    assert_eq!(rt; code(stream.flush()), Some(21));
+    assert_eq!(rt; code(stream.write(b"")), Some(21));
     assert_eq!(rt; stream.turn(), Turn::Stopped);
     Ok(())
 }

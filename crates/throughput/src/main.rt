@@ -17,28 +17,26 @@ fn passed(stream: &mut AsyncWriteStream<MemoryWriter>, bytes: &[u8]) -> bool {
 
 // How many writes went through.
 fn play(stream: &mut AsyncWriteStream<MemoryWriter>) -> usize {
-    let mut count = 0usize;
-    for i in 0..WRITES {
-        let bytes = [(i % 256) as u8; LENGTH];
-        if passed(stream, &bytes) {
-            count = count.wrapping_add(1);
-        }
-    }
-    count
+    (0..WRITES)
+        .map(|i| passed(stream, &[(i % 256) as u8; LENGTH]))
+        .filter(|went| *went)
+        .count()
+}
+
+// The largest budget, and one handle, which a worker stream alone does not ask for.
+fn largest_budget() -> Limits {
+    Limits::new(4096, 1).unwrap()
 }
 
 fn main(rt: HostRuntime) -> anyhow::Result<()> {
     let memory = vec![in rt.alloc(); 0u8; WRITES * LENGTH]?;
-    let Ok(limits) = Limits::new(4096, 1) else {
-        return Ok(());
-    };
-    let mut stream = AsyncWriteStream::new(limits, MemoryWriter::new(memory));
+    let mut stream = AsyncWriteStream::new(largest_budget(), MemoryWriter::new(memory));
     let count = play(&mut stream);
-    let mut sum = 0u32;
-    for byte in stream.writer().contents() {
-        sum = sum.wrapping_add(u32::from(*byte));
-    }
-    let taken = stream.writer().contents().len();
+    let bytes = stream.writer().contents();
+    let taken = bytes.len();
+    let sum = bytes
+        .iter()
+        .fold(0u32, |sum, byte| sum.wrapping_add(u32::from(*byte)));
     println!(rt; "{count} writes, {taken} bytes taken, sum {sum}")?;
     Ok(())
 }

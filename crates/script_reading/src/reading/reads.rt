@@ -2,12 +2,11 @@
 ghost use Rattle.std.specs.Prelude.{◌≡◌, IfOk, OnOk};
 ghost use Rattle.script_reading.specs.Reading.{read_line, says, makes, plans, unread};
 ghost use Rattle.script_reading.specs.ReadingOf.{read_of};
-ghost use Rattle.calls.specs.Calls.{call_view};
+ghost use Rattle.handles.specs.Calls.{call_view};
 
 use super::Reading;
-use crate::slot::Slot;
 use answers::Answer;
-use calls::Call;
+use handles::Call;
 use memory_writers::memory::MemoryWriter;
 use planned_writer::PlanEntry;
 use planned_writer::planned::PlannedWriter;
@@ -34,20 +33,22 @@ impl<'a> Reading<'a> {
     fn say(&mut self, answer: Answer) -> Result<(), AllocError>
         ensures { OnOk result (read_of self.new ≡ says answer (read_of self.old)) }
     {
-        self.slots.push(Slot::Said(answer))?;
+        self.slots.push(Some(answer))?;
         Ok(())
     }
 
     // The line makes this call.
+    #[tactic(auto, using(crate::proofs::Readings::calls_more))]
     fn call(&mut self, call: Call<'a>) -> Result<(), AllocError>
         ensures { OnOk result (read_of self.new ≡ makes (call_view call.entry) (read_of self.old)) }
     {
-        self.slots.push(Slot::Called)?;
+        self.slots.push(None)?;
         self.calls.push(call)?;
         Ok(())
     }
 
     // One entry more for the plan, before any call.
+    #[tactic(auto, using(crate::proofs::Readings::plans_late, crate::proofs::Readings::plans_first))]
     fn plan(&mut self, entry: PlanEntry) -> Result<(), AllocError>
         ensures { OnOk result (read_of self.new ≡ plans (read_of self.old).calls entry (read_of self.old)) }
     {
@@ -66,14 +67,7 @@ impl<'a> Reading<'a> {
     {
         match parse_command(line) {
             None => self.say(Answer::Misfit),
-            Some(Command::Write(bytes)) => self.call(Call::Write(bytes)),
-            Some(Command::CheckWrite) => self.call(Call::CheckWrite),
-            Some(Command::Flush) => self.call(Call::Flush),
-            Some(Command::Cancel) => self.call(Call::Cancel),
-            Some(Command::Turn) => self.call(Call::Turn),
-            Some(Command::HandleWrite(handle, bytes)) => self.call(Call::PollWrite(handle, bytes)),
-            Some(Command::HandleFlush(handle)) => self.call(Call::PollFlush(handle)),
-            Some(Command::HandleDrop(handle)) => self.call(Call::DropHandle(handle)),
+            Some(Command::Call(call)) => self.call(call),
             Some(Command::Plan(entry)) => self.plan(entry),
         }
     }

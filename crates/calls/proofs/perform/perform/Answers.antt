@@ -1,6 +1,6 @@
 use Rattle.std.proofs.Common.{refl, ap}
 use Rattle.promises.specs.Events.{write, check, flush, cancel, turn, handle_write, handle_flush, handle_drop}
-use Rattle.calls.specs.Calls.{call_view}
+use Rattle.handles.specs.Calls.{call_view}
 use Rattle.calls.proofs.perform.perform.Goals as goal
 
 pub returns-in-Write : goal.returns-in-Write

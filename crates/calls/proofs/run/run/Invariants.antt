@@ -2,7 +2,8 @@ use Rattle.std.proofs.Common.{◌≡◌, ◌≤◌, map, length, take, vec_items
 use Rattle.worker_stream.specs.WorkerOf.{worker_view}
 use Rattle.promises.specs.History.{History}
 use Rattle.promises.specs.Promises.{Run}
-use Rattle.calls.specs.Calls.{call_view, Performed}
+use Rattle.handles.specs.Calls.{call_view}
+use Rattle.calls.specs.Calls.{Performed}
 use Rattle.shared.specs.SharedOf.{shared_view}
 use Rattle.calls.proofs.run.run.Given as goal
 
