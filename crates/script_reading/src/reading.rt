@@ -9,6 +9,7 @@ pub struct Reading<'a> {
     pub writer: PlannedWriter<MemoryWriter>,
     // What each line prints: an answer said when it was read, or `None` where the next call of `calls` answers.
     pub slots: Vec<Option<Answer>>,
+    // The calls by themselves, since they are run as one list.
     pub calls: Vec<Call<'a>>,
 }
 

@@ -7,7 +7,7 @@ use Rattle.planned_writer.specs.declared.plan.PlanEntry.{PlanEntry}
 use Rattle.calls.specs.declared.call.Answer.{Answer as Reply}
 use Rattle.handles.specs.Calls.{CallView}
 use Rattle.answers.specs.declared.answer.Answer.{Answer}
-use Rattle.script.specs.Commands.{CommandView, call, plan}
+use Rattle.script.specs.Commands.{CommandView, plan}
 use Rattle.script.specs.Parsing.{parsed, limits}
 use Rattle.script_reading.specs.Reading.{Read, unread, plans, plans_if, reads, read_line, lines_read}
 use Rattle.session.specs.Merging.{merged}
@@ -24,8 +24,8 @@ plan_slot (c ∷ cs) entry r = length_push r.slots _
 
 line_slot : (o : Option CommandView) (r : Read) → length (reads o r).slots ≡ length r.slots + 1
 line_slot (Some (plan entry)) r = plan_slot r.calls entry r
-line_slot (Some (call c)) r = length_push r.slots _
 line_slot None r = length_push r.slots _
+line_slot (Some _) r = length_push r.slots _
 
 slots_count : (more : List (List ℕ)) (r : Read) → length (lines_read r more).slots ≡ length r.slots + length more
 slots_count [] r = omega arith

@@ -3,7 +3,7 @@ use answers::{Answer, AnswerLines};
 use canonical_form::canonical_command;
 use handles::Call;
 use planned_writer::PlanEntry;
-use script::{Command, next_line, parse_command, parse_limits};
+use script::{Command, Lines, next_line, parse_command, parse_limits};
 use std::process::Abort;
 use std::test::Fail;
 use stream::StreamError;
@@ -73,6 +73,7 @@ fn lines_end_at_newlines(rt: HostRuntime) -> Result<(), Fail> {
     assert!(rt; first == b"a\r".as_slice());
     assert!(rt; rest == b"\nb\n".as_slice());
     assert!(rt; next_line(b"").is_none());
+    assert_eq!(rt; Lines::new(text).count(), 3);
     Ok(())
 }
 
