@@ -1,5 +1,5 @@
 // A writer over an owned buffer, whose length is its capacity. Relies on the buffer of `buffer`.
-ghost use Rattle.std.specs.Prelude.{◌≡◌, ◌++◌};
+ghost use Rattle.std.specs.Prelude.{◌≡◌, [], ◌++◌};
 ghost use Rattle.memory_writers.specs.Area.{Area, fresh_area};
 ghost use Rattle.memory_writers.specs.Stores.{MemoryWrites, AreaFlushes};
 ghost use Rattle.std.proofs.Common.{rules};
@@ -34,9 +34,10 @@ impl MemoryWriter {
         }
     }
 
-    // The bytes taken.
+    // The bytes taken. None lies before them.
     pub fn contents(&self) -> &[u8]
         ensures value { result.now ≡ self.now.taken }
+        ensures whole { self.now.before ≡ [] }
     {
         self.buffer.taken()
     }
