@@ -1,9 +1,9 @@
 -- Conservation: budget, lengths and bytes of the stream against its history.
 -- Assumes nothing.
 use Rattle.std.proofs.Common.{◌≡◌, ℕ, zero, suc, ◌+◌, ◌-◌, ◌<◌, ◌≤◌, min, max, List, [], ◌∷◌, ◌++◌, map, length, take, drop, Ok, Err, sym, refl, ap, ◌∙◌, subst, append_assoc, append-nil, arith, length-append, length-take, take_at, take-add, drop_at}
-use mathlib.Core.Path.{subst⁻¹}
+use Rattle.std.proofs.Math.Path.{subst⁻¹}
 use mathlib.Core.List.{flatten}
-use lib.ListN.{length-map}
+use Rattle.std.proofs.Math.ListN.{length-map}
 use Rattle.worker_stream.specs.StoreView.{oldest}
 use Rattle.worker_stream.specs.declared.write_stream.job.Turn.{Turn}
 use Rattle.handles.specs.Errors.{HandleError}

@@ -2,8 +2,8 @@
 -- Assumes nothing.
 use Rattle.std.proofs.Common.{◌≡◌, ℕ, zero, suc, ◌+◌, ◌<◌, ◌≤◌, min, Bool, true, false, cond, eqb, ◌⊎◌, List, [], ◌∷◌, ◌++◌, length, get_or, take, replicate, Some, Ok, Err, Option, sym, refl, ap, ◌∙◌, subst, inl, inr, append-nil, arith, length-append}
 use mathlib.Core.List.{flatten}
-use lib.Seq.{take-append-le}
-use borrow.Author.Tests.{both_ways}
+use Rattle.std.proofs.Math.Seq.{take-append-le}
+use Rattle.std.proofs.lemmas.Bool.{both_ways}
 use Rattle.worker_stream.specs.StoreView.{oldest}
 use Rattle.worker_stream.specs.declared.write_stream.job.Turn.{Turn}
 use Rattle.worker_stream.specs.declared.write_stream.worker.Status.TheVariants.{Alive}

@@ -1,7 +1,7 @@
 -- With patient handles, a handle stands in the queue exactly while a call of it is unanswered.
 -- Assumes nothing.
 use Rattle.std.proofs.Common.{◌≡◌, ℕ, ◌<◌, true, false, List, [], ◌∷◌, ◌++◌, length, Ok, Err, sym, refl, ap, ◌∙◌, subst, inl, inr, length-set}
-use mathlib.Core.Path.{subst⁻¹}
+use Rattle.std.proofs.Math.Path.{subst⁻¹}
 use Rattle.worker_stream.specs.declared.write_stream.job.Turn.{Turn}
 use Rattle.handles.specs.declared.handle.HandleState.{HandleState}
 use Rattle.handles.specs.declared.handle.HandleState.TheVariants.{Ready, Locking, Locked, Closed}

@@ -1,8 +1,8 @@
 -- Bounded waiting: each full round leaves fewer rounds to an unanswered call.
 -- Assumes nothing.
 use Rattle.std.proofs.Common.{◌≡◌, ℕ, suc, ◌+◌, ◌*◌, ◌<◌, ◌≤◌, Bool, true, false, ◌⊎◌, List, [], ◌∷◌, ◌++◌, length, Ok, sym, refl, ap, ◌∙◌, subst, inl, inr, mul-le-mul_right, arith, length-set, eq-eqb}
-use mathlib.Core.Path.{subst⁻¹}
-use borrow.Author.Tests.{both_ways}
+use Rattle.std.proofs.Math.Path.{subst⁻¹}
+use Rattle.std.proofs.lemmas.Bool.{both_ways}
 use Rattle.worker_stream.specs.declared.write_stream.job.Turn.{Turn}
 use Rattle.worker_stream.specs.declared.write_stream.job.Turn.TheVariants.{NotYet}
 use Rattle.stream.specs.Meaning.{open_with, ready}

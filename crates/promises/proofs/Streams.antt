@@ -1,8 +1,8 @@
 -- The worker stream with the bytes of its writer, the few ways of a host turn, and what each call leaves by the stream's status.
 -- Assumes nothing.
 use Rattle.std.proofs.Common.{◌≡◌, ℕ, zero, suc, ◌+◌, ◌<◌, ◌≤◌, Bool, true, false, cond, not, eqb, ltb, leb, ◌⊎◌, List, [], ◌∷◌, ◌++◌, length, take, drop, Some, None, Option, sym, refl, ap, ◌∙◌, inl, inr, append-nil, arith, length-drop, take_all, ltb-true, lt-ltb, eqb-true, le-leb, leb-true}
-use mathlib.Core.Path.{subst⁻¹}
-use borrow.Author.Tests.{eqb-false}
+use Rattle.std.proofs.Math.Path.{subst⁻¹}
+use Rattle.std.proofs.lemmas.Bool.{eqb-false}
 use Rattle.writer.specs.declared.answer.Fault.{Fault}
 use Rattle.writer.specs.declared.answer.Fault.TheVariants.{WriteZero}
 use Rattle.writer.specs.declared.answer.WriteAnswer.{WriteAnswer}

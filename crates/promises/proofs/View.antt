@@ -1,9 +1,9 @@
 -- Each step goes one of a few ways: the case analysis of the rules, made once.
 -- Assumes nothing.
 use Rattle.std.proofs.Common.{◌≡◌, ℕ, zero, suc, ◌<◌, ◌≤◌, min, Bool, true, false, cond, ◌⊎◌, List, [], ◌∷◌, ◌++◌, length, get_or, take, set, Ok, Err, Option, Result, sym, refl, ap, ◌∙◌, inl, inr, arith, length-take, get_or-set_same}
-use mathlib.Core.Path.{subst⁻¹}
-use native.Mathlib.Decide.{dec_lt}
-use lib.ListN.{get_or-eq_default}
+use Rattle.std.proofs.Math.Path.{subst⁻¹}
+use Rattle.std.proofs.Math.Decide.{dec_lt}
+use Rattle.std.proofs.Math.ListN.{get_or-eq_default}
 use Rattle.writer.specs.declared.answer.Fault.{Fault}
 use Rattle.writer.specs.declared.answer.WriteAnswer.{WriteAnswer}
 use Rattle.writer.specs.declared.answer.FlushAnswer.{FlushAnswer}

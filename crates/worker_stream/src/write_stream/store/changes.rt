@@ -50,6 +50,7 @@ impl Store {
         ensures { self.new ≡ queued bytes.now self.old }
     {
         self.bytes.try_extend_from_slice(bytes).unwrap();
+        // A length of at most 4,096: the cast loses nothing, and `try_from` would have an error to answer.
         self.lengths.push(bytes.len() as u16);
     }
 
