@@ -1,11 +1,13 @@
-// What is printed of a refusal: a fault with what it is, any other by its number. Relies on `handles` and `stream` for the refusals.
+// What is printed of a refusal: a fault with what it is, any other by its number. Relies on `handles`, `stream` and `planned_writer` for the refusals.
 ghost use Rattle.std.specs.Prelude.{◌≡◌};
 ghost use Rattle.stream.specs.LimitsRules.{number as limits_number};
+ghost use Rattle.planned_writer.specs.Planned.{refusal_number};
 ghost use Rattle.answers.specs.declared.answer.Answer.TheVariants.{Refused};
 ghost use Rattle.answers.specs.Printing.{refused, call_refused, RefusalsTellTheirNumber};
 
 use crate::answer::Answer;
 use handles::{CallError, Refusal};
+use planned_writer::PlanFull;
 use stream::StreamError;
 use stream::limits::refusal::LimitsError;
 
@@ -14,6 +16,14 @@ impl From<LimitsError> for Answer {
 
     fn from(e: LimitsError) -> Answer {
         Answer::Refused(e.code())
+    }
+}
+
+impl From<PlanFull> for Answer {
+    ghost from_gives = { λ full answer. answer ≡ Refused (refusal_number full) };
+
+    fn from(full: PlanFull) -> Answer {
+        Answer::Refused(full.code())
     }
 }
 

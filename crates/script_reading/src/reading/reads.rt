@@ -55,10 +55,8 @@ impl<'a> Reading<'a> {
         if !self.calls.is_empty() {
             return self.say(Answer::Misfit);
         }
-        match self.writer.plan(entry) {
-            Ok(()) => self.say(Answer::Accepted),
-            Err(full) => self.say(Answer::Refused(full.code())),
-        }
+        let answer = self.writer.plan(entry).into();
+        self.say(answer)
     }
 
     // Reads one line more.
