@@ -7,8 +7,9 @@
 --   permit_printed           what a handle's write answers
 --   flush_printed            what a handle's flush answers
 --   printed                  a reply of the shared stream
---   RefusalsTellTheirNumber  what is printed of a stream's refusal begins with its number
-use Rattle.std.specs.Prelude.{◌≡◌, ℕ, List, ◌++◌, codes, decimal, Ok, Err}
+--   NothingOrBlank           a text is empty or begins with a blank
+--   RefusalsTellTheirNumber  what is printed of a stream's refusal begins with its number, and that with no digit more
+use Rattle.std.specs.Prelude.{◌≡◌, ℕ, List, [], ◌∷◌, ◌++◌, codes, decimal, Ok, Err}
 use Rattle.stream.specs.declared.error.StreamError.{StreamError}
 use Rattle.stream.specs.declared.error.StreamError.TheVariants.{LastOperationFailed, Closed, Trap}
 use Rattle.worker_stream.specs.declared.write_stream.job.Turn.{Turn}
@@ -19,9 +20,9 @@ use Rattle.handles.specs.declared.error.CallError.TheVariants.{Refused as Questi
 use Rattle.handles.specs.Errors.{DirectError, HandleError}
 use Rattle.handles.specs.declared.handle.Poll.{Poll}
 use Rattle.handles.specs.declared.handle.Poll.TheVariants.{Ready, Pending}
-use Rattle.handles.specs.Refusals.{lock_held_number, no_such_handle_number}
-use Rattle.calls.specs.declared.call.Answer.{Answer as Reply}
-use Rattle.calls.specs.declared.call.Answer.TheVariants.{Write, CheckWrite, Flush, Cancel, Turn as Turned, PollWrite, PollFlush, DropHandle}
+use Rattle.handles.specs.Refusals.{direct_number, handle_number}
+use Rattle.calls.specs.declared.answer.Answer.{Answer as Reply}
+use Rattle.calls.specs.declared.answer.Answer.TheVariants.{Write, CheckWrite, Flush, Cancel, Turn as Turned, PollWrite, PollFlush, DropHandle}
 use Rattle.answers.specs.declared.answer.Answer.{Answer}
 use Rattle.answers.specs.declared.answer.Answer.TheVariants.{Accepted, Count, Done, Wait, Finished, Moved, Flushed, Idle, Stopped, Failed, Refused, Fault}
 use Rattle.answers.specs.Answers.{answer_text}
@@ -32,15 +33,15 @@ refused (LastOperationFailed f) = Fault f
 refused Closed = Refused (number Closed)
 refused (Trap e) = Refused (number (Trap e))
 
-abbrev pub call_refused : {R : Type 0} → (R → ℕ) → CallError R → Answer
-call_refused refusal_number (Question refusal) = Refused (refusal_number refusal)
-call_refused refusal_number (Stream e) = refused e
+abbrev pub call_refused : {R : Type 0} → (CallError R → ℕ) → CallError R → Answer
+call_refused number_of (Question refusal) = Refused (number_of (Question refusal))
+call_refused number_of (Stream e) = refused e
 
 abbrev pub direct_refused : DirectError → Answer
-direct_refused e = call_refused lock_held_number e
+direct_refused e = call_refused direct_number e
 
 abbrev pub handle_refused : HandleError → Answer
-handle_refused e = call_refused no_such_handle_number e
+handle_refused e = call_refused handle_number e
 
 abbrev pub turn_printed : Turn → Answer
 turn_printed TurnStopped = Stopped
@@ -77,5 +78,9 @@ printed (PollFlush (Err e)) = handle_refused e
 printed (DropHandle (Ok x)) = Accepted
 printed (DropHandle (Err e)) = handle_refused e
 
+abbrev pub NothingOrBlank : List ℕ → Type 0
+NothingOrBlank [] = Unit {0}
+NothingOrBlank (b ∷ more) = b ≡ 32
+
 abbrev pub RefusalsTellTheirNumber : Type 0
-RefusalsTellTheirNumber = (e : StreamError) → (more : List ℕ) × (answer_text (refused e) ≡ codes "e " ++ decimal (number e) ++ more)
+RefusalsTellTheirNumber = (e : StreamError) → (more : List ℕ) × NothingOrBlank more × (answer_text (refused e) ≡ codes "e " ++ decimal (number e) ++ more)

@@ -2,6 +2,7 @@
 ghost use Rattle.std.specs.Prelude.{◌≡◌};
 ghost use Rattle.stream.specs.LimitsRules.{number as limits_number};
 ghost use Rattle.planned_writer.specs.Planned.{refusal_number};
+ghost use Rattle.handles.specs.Refusals.{call_number};
 ghost use Rattle.answers.specs.declared.answer.Answer.TheVariants.{Refused};
 ghost use Rattle.answers.specs.Printing.{refused, call_refused, RefusalsTellTheirNumber};
 
@@ -39,7 +40,7 @@ impl From<StreamError> for Answer {
 }
 
 impl<R: Refusal + Copy> From<CallError<R>> for Answer {
-    ghost from_gives = { λ e answer. answer ≡ call_refused R.number e };
+    ghost from_gives = { λ e answer. answer ≡ call_refused (call_number R.number) e };
 
     fn from(e: CallError<R>) -> Answer {
         match e {

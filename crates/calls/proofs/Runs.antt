@@ -10,7 +10,7 @@ use Rattle.promises.specs.Events.{Event}
 use Rattle.promises.specs.Steps.{Step}
 use Rattle.promises.specs.History.{History, start, ◌▷◌, ◌▷▷◌}
 use Rattle.promises.specs.Promises.{Run, made, called, Promises}
-use Rattle.calls.specs.declared.call.Answer.{Answer}
+use Rattle.calls.specs.declared.answer.Answer.{Answer}
 use Rattle.handles.specs.declared.call.Call.{Call}
 use Rattle.handles.specs.Calls.{call_view}
 use Rattle.calls.specs.Calls.{Pairs, Performed, more}

@@ -5,8 +5,8 @@ use Rattle.std.specs.Prelude.{◌≡◌, List, [], ◌∷◌, ◌++◌}
 use Rattle.promises.specs.Events.{Event, write, check, flush, cancel, turn, handle_write, handle_flush, handle_drop}
 use Rattle.promises.specs.History.{History, start, ◌▷◌}
 use Rattle.handles.specs.Calls.{CallView, writes, checks, flushes, cancels, turns, polls_write, polls_flush, drops}
-use Rattle.calls.specs.declared.call.Answer.{Answer}
-use Rattle.calls.specs.declared.call.Answer.TheVariants.{Write as Wrote, CheckWrite as Checked, Flush as Flushed, Cancel as Cancelled, Turn as Turned, PollWrite as PolledWrite, PollFlush as PolledFlush, DropHandle as Dropped}
+use Rattle.calls.specs.declared.answer.Answer.{Answer}
+use Rattle.calls.specs.declared.answer.Answer.TheVariants.{Write as Wrote, CheckWrite as Checked, Flush as Flushed, Cancel as Cancelled, Turn as Turned, PollWrite as PolledWrite, PollFlush as PolledFlush, DropHandle as Dropped}
 
 pub record Both (P Q : Type 0) : Type 0 where
   pub call : P

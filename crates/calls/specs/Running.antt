@@ -13,7 +13,7 @@ use Rattle.promises.specs.Events.{handle_flush}
 use Rattle.promises.specs.Steps.{free_budget, handle_state}
 use Rattle.promises.specs.History.{History, ◌▷◌, ◌▷▷◌, NoCancel, Patient}
 use Rattle.promises.specs.Promises.{Run, Conserved, Covered, InTime}
-use Rattle.calls.specs.declared.call.Answer.{Answer}
+use Rattle.calls.specs.declared.answer.Answer.{Answer}
 use Rattle.handles.specs.Calls.{CallView}
 use Rattle.calls.specs.Calls.{Performed}
 

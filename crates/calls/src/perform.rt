@@ -6,7 +6,7 @@ ghost use Rattle.promises.specs.Steps.{Step};
 ghost use Rattle.shared.specs.SharedOf.{shared_view};
 ghost use Rattle.worker_stream.specs.WorkerOf.{worker_view};
 
-use crate::call::Answer;
+use crate::answer::Answer;
 use handles::Call;
 use shared::AsyncStdoutStream;
 use worker_stream::AsyncWriteStream;

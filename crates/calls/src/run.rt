@@ -5,7 +5,7 @@ ghost use Rattle.calls.specs.Running.{Ran};
 ghost use Rattle.shared.specs.SharedOf.{shared_view};
 ghost use Rattle.worker_stream.specs.WorkerOf.{worker_view};
 
-use crate::call::Answer;
+use crate::answer::Answer;
 use crate::perform::perform;
 use handles::Call;
 use shared::locked_async::stdout::AsyncStdoutStream;

@@ -5,11 +5,11 @@ ghost use Rattle.handles.specs.declared.error.CallError.TheVariants.{Refused, St
 
 use stream::StreamError;
 
-// What a no to the question before a call is answered with.
+// Why a call is refused before it reaches the stream.
 pub trait Refusal {
     ghost number: { Self → ℕ };
 
-    // The refusal's number.
+    // The refusal's number, by which the rules name it: `u8::from` would not say what number it is.
     fn code(&self) -> u8
         ensures { result ≡ number self.now };
 }

@@ -21,8 +21,8 @@ pub struct StdoutHandle {
     pub mark: bool,
 }
 
-// What a poll answers: a value, or not yet. Rust has this type in its own library, and this one has not;
-// the `None` of an `Option` would not say "not yet".
+// What a poll answers: a value, or not yet. The standard library has no `Poll`, and that of the kit's `futures` is
+// not `Copy` and brings tasks and wakers; the `None` of an `Option` would not say "not yet".
 #[derive(Clone, Copy, PartialEq, Eq, Debug)]
 pub enum Poll<T> {
     Ready(T),

@@ -46,8 +46,7 @@ impl MemoryOutputPipe {
     pub fn into_inner(self) -> Vec<u8>
         ensures value { result.items ≡ self.held ++ self.room }
     {
-        let MemoryOutputPipe { buffer, .. } = self;
-        buffer
+        self.buffer
     }
 
     // How many bytes fit still.

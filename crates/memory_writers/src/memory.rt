@@ -45,6 +45,7 @@ impl MemoryWriter {
     // How many bytes the last flush covered.
     pub fn covered(&self) -> usize
         ensures value { result ≡ self.now.covered }
+        ensures whole { self.now.before ≡ [] }
     {
         self.buffer.covered()
     }

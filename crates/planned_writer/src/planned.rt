@@ -9,13 +9,17 @@ use arrayvec::ArrayVec;
 #[derive(Clone, Copy, PartialEq, Eq, Debug)]
 pub struct PlanFull;
 
-// The first `spent` of the entries are spent, and keep their places. There is no `impl Model`:
-// a refused entry leaves the spent entries too, which the view has forgotten.
+// How many entries one plan has at most.
+const MAX_ENTRIES: usize = 32;
+
+// The first `spent` of the entries are spent, and keep their places, since they count against the 32. There is no
+// `impl Model`: a refused entry leaves the spent entries too, which the view has forgotten.
 #[derive(Drop)]
 pub struct PlannedWriter<W> {
     inner: W,
-    entries: ArrayVec<PlanEntry, 32>,
+    entries: ArrayVec<PlanEntry, MAX_ENTRIES>,
     spent: usize,
+    ghost few: { array_vec_len entries ≤ 32 },
     ghost within: { spent ≤ array_vec_len entries },
 }
 

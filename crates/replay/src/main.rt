@@ -16,11 +16,11 @@ use script::number::parse_number;
 use session::read_limits;
 use std::io::Read;
 
-const MOST_CAPACITY: usize = 4096;
+const MAX_CAPACITY: usize = 4096;
 
 // The capacity in a first line of a pipe's script.
 fn parse_pipe(line: &[u8]) -> Option<usize> {
-    parse_number(line.strip_prefix(b"pipe ")?).filter(|capacity| *capacity <= MOST_CAPACITY)
+    parse_number(line.strip_prefix(b"pipe ")?).filter(|capacity| *capacity <= MAX_CAPACITY)
 }
 
 // A script that does not begin answers with one line.

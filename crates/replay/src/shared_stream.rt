@@ -8,15 +8,12 @@ use planned_writer::PlannedWriter;
 use script_reading::reading::Reading;
 use shared::AsyncStdoutStream;
 use stream::Limits;
+use stream::limits::MAX_BUDGET;
+use worker_stream::write_stream::store::MAX_WRITES;
 use worker_stream::{AsyncWriteStream, Turn};
 
-// So many bytes and so many writes wait at most.
-const MOST_BYTES: usize = 4096;
-
-const MOST_WRITES: usize = 256;
-
 // No more turns follow one another: one for each byte and each write, a flush, and the turn that says idle.
-const MOST_TURNS: usize = MOST_BYTES + MOST_WRITES + 2;
+const MAX_TURNS: usize = MAX_BUDGET + MAX_WRITES + 2;
 
 const WHOLE_POLL: &[u8] = b"T";
 
@@ -34,7 +31,7 @@ fn print_counts(rt: &impl Print, shared: &Shared) -> anyhow::Result<()> {
 // One poll of a background task, as host turns.
 fn print_turns(rt: &impl Print, shared: &mut Shared) -> anyhow::Result<()> {
     let mut separator = "";
-    for _ in 0..MOST_TURNS {
+    for _ in 0..MAX_TURNS {
         let turn = shared.turn();
         if turn == Turn::Finished(0) {
             continue;

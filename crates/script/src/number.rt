@@ -5,7 +5,7 @@ ghost use Rattle.std.specs.Char.{is_ascii_digit};
 ghost use Rattle.script.specs.Numbers.{number};
 
 // With so many digits no number is too large for its type.
-const MOST_DIGITS: usize = 9;
+const MAX_DIGITS: usize = 9;
 
 // There is nothing but digits.
 fn all_digits(text: &[u8]) -> bool
@@ -19,7 +19,7 @@ fn all_digits(text: &[u8]) -> bool
 pub fn parse_number(text: &[u8]) -> Option<usize>
     ensures value { result ≡ number text.now }
 {
-    if text.len() > MOST_DIGITS || !all_digits(text) {
+    if text.len() > MAX_DIGITS || !all_digits(text) {
         return None;
     }
     str::from_utf8(text).ok()?.parse().ok()

@@ -12,7 +12,7 @@ use handles::Call;
 use planned_writer::PlanEntry;
 
 // A plan entry takes at most so many bytes.
-const MOST_BYTES: u16 = 4096;
+const MAX_BYTES: u16 = 4096;
 
 // What follows a blank.
 fn after_blank(text: &[u8]) -> Option<&[u8]>
@@ -41,7 +41,7 @@ fn parse_most(rest: &[u8]) -> Option<u16>
 {
     u16::try_from(parse_argument(rest)?)
         .ok()
-        .filter(|most| *most <= MOST_BYTES)
+        .filter(|most| *most <= MAX_BYTES)
 }
 
 // The code of a device.
@@ -61,21 +61,21 @@ fn parse_handle_write(rest: &[u8]) -> Option<Command<'_>>
 
 // The command that the letter and the rest of a line say.
 #[tactic(auto, using(crate::proofs::Forms::none_without_letter))]
-fn parse_by_letter(letter: u8, rest: &[u8]) -> Option<Command<'_>>
+fn parse_by_letter(letter: char, rest: &[u8]) -> Option<Command<'_>>
     ensures value { option_map view result ≡ form_of forms letter rest.now }
 {
     match letter {
-        b'w' => Some(Command::Call(Call::Write(after_blank(rest)?))),
-        b'c' => parse_alone(Command::Call(Call::CheckWrite), rest),
-        b'f' => parse_alone(Command::Call(Call::Flush), rest),
-        b'x' => parse_alone(Command::Call(Call::Cancel), rest),
-        b't' => parse_alone(Command::Call(Call::Turn), rest),
-        b'W' => parse_handle_write(rest),
-        b'F' => Some(Command::Call(Call::PollFlush(parse_argument(rest)?))),
-        b'D' => Some(Command::Call(Call::DropHandle(parse_argument(rest)?))),
-        b'p' => Some(Command::Plan(PlanEntry::AtMost(parse_most(rest)?))),
-        b'q' => parse_alone(Command::Plan(PlanEntry::NotYet), rest),
-        b'r' => Some(Command::Plan(PlanEntry::Fail(parse_code(rest)?))),
+        'w' => Some(Command::Call(Call::Write(after_blank(rest)?))),
+        'c' => parse_alone(Command::Call(Call::CheckWrite), rest),
+        'f' => parse_alone(Command::Call(Call::Flush), rest),
+        'x' => parse_alone(Command::Call(Call::Cancel), rest),
+        't' => parse_alone(Command::Call(Call::Turn), rest),
+        'W' => parse_handle_write(rest),
+        'F' => Some(Command::Call(Call::PollFlush(parse_argument(rest)?))),
+        'D' => Some(Command::Call(Call::DropHandle(parse_argument(rest)?))),
+        'p' => Some(Command::Plan(PlanEntry::AtMost(parse_most(rest)?))),
+        'q' => parse_alone(Command::Plan(PlanEntry::NotYet), rest),
+        'r' => Some(Command::Plan(PlanEntry::Fail(parse_code(rest)?))),
         _ => None,
     }
 }
@@ -85,7 +85,7 @@ pub fn parse_command(line: &[u8]) -> Option<Command<'_>>
     ensures value { option_map view result ≡ parsed line.now }
 {
     let (letter, rest) = line.split_first()?;
-    parse_by_letter(*letter, rest)
+    parse_by_letter(char::from(*letter), rest)
 }
 
 // Budget and number of handles, which the first line gives.

@@ -4,6 +4,7 @@ use handles::Call;
 use memory_writers::memory::MemoryWriter;
 use planned_writer::planned::PlannedWriter;
 
+// No `impl Model`: whoever plays it takes its fields apart, and their clauses speak of them.
 #[derive(Drop)]
 pub struct Reading<'a> {
     pub writer: PlannedWriter<MemoryWriter>,

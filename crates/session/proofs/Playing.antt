@@ -4,7 +4,7 @@ use Rattle.std.proofs.lemmas.List.{length_push}
 use Rattle.stream.specs.declared.limits.refusal.LimitsError.{LimitsError}
 use Rattle.stream.specs.LimitsRules.{refusal}
 use Rattle.planned_writer.specs.declared.plan.PlanEntry.{PlanEntry}
-use Rattle.calls.specs.declared.call.Answer.{Answer as Reply}
+use Rattle.calls.specs.declared.answer.Answer.{Answer as Reply}
 use Rattle.handles.specs.Calls.{CallView}
 use Rattle.answers.specs.declared.answer.Answer.{Answer}
 use Rattle.script.specs.Commands.{CommandView, plan}

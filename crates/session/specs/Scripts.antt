@@ -12,7 +12,7 @@ use Rattle.stream.specs.declared.limits.refusal.LimitsError.{LimitsError}
 use Rattle.stream.specs.LimitsRules.{refusal, number}
 use Rattle.worker_stream.specs.WorkerView.{WorkerView}
 use Rattle.promises.specs.SharedView.{SharedView}
-use Rattle.calls.specs.declared.call.Answer.{Answer as Reply}
+use Rattle.calls.specs.declared.answer.Answer.{Answer as Reply}
 use Rattle.calls.specs.Running.{Ran}
 use Rattle.answers.specs.Answers.{answer_lines}
 use Rattle.answers.specs.declared.answer.Answer.{Answer}

@@ -28,7 +28,7 @@ pub enum StreamError {
 }
 
 impl StreamError {
-    // The refusal's number.
+    // The refusal's number, by which the rules name it: `u8::from` would not say what number it is.
     pub fn code(&self) -> u8
         ensures { result ≡ number self.now }
     {

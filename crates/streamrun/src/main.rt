@@ -5,11 +5,11 @@ use session::script_text;
 use std::io::Read;
 
 // At most this much of a script is read.
-const MOST: u64 = 32768;
+const MAX: u64 = 32768;
 
 fn main(rt: HostRuntime) -> anyhow::Result<()> {
     let mut text = Vec::new(rt.alloc());
-    rt.stdin().take(MOST).read_to_end(&mut text)?;
+    rt.stdin().take(MAX).read_to_end(&mut text)?;
     let printed = script_text(rt.alloc(), &text)?;
     print!(rt; "{printed}")?;
     Ok(())

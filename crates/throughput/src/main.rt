@@ -2,6 +2,7 @@
 #![tactic(auto)]
 
 use memory_writers::MemoryWriter;
+use stream::limits::MAX_BUDGET;
 use stream::{Limits, OutputStream};
 use worker_stream::{AsyncWriteStream, Turn};
 use writer::Writer;
@@ -15,7 +16,8 @@ fn passed(stream: &mut AsyncWriteStream<MemoryWriter>, bytes: &[u8]) -> bool {
     stream.write(bytes).is_ok() && matches!(stream.turn(), Turn::Finished(_))
 }
 
-// How many writes went through.
+// How many writes went through. The cast loses nothing, and `try_from` would have an error to answer; `filter` on the
+// write itself takes a tenth longer.
 fn play(stream: &mut AsyncWriteStream<MemoryWriter>) -> usize {
     (0..WRITES)
         .map(|i| passed(stream, &[(i % 256) as u8; LENGTH]))
@@ -25,7 +27,7 @@ fn play(stream: &mut AsyncWriteStream<MemoryWriter>) -> usize {
 
 // The largest budget, and one handle, which a worker stream alone does not ask for.
 fn largest_budget() -> Limits {
-    Limits::new(4096, 1).unwrap()
+    Limits::new(MAX_BUDGET, 1).unwrap()
 }
 
 fn main(rt: HostRuntime) -> anyhow::Result<()> {

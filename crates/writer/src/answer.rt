@@ -9,8 +9,8 @@ pub enum Fault {
     Device(u8),
 }
 
-// The answer to a write of a part. The rules name its three answers one by one, and so does the enum:
-// a `Result<Poll<usize>, Fault>` would be no plainer.
+// The answer to a write of a part. The rules, the trait's laws and every match name its three answers one by one;
+// in a `Result<Poll<usize>, Fault>` they would lie two deep.
 #[derive(Clone, Copy, PartialEq, Eq, Debug)]
 pub enum WriteAnswer {
     // The first so many bytes of the part were taken.
@@ -19,7 +19,7 @@ pub enum WriteAnswer {
     Failed(Fault),
 }
 
-// The answer to a flush: three again, one by one as the rules name them.
+// The answer to a flush: three again, one by one, since in a `Result<Poll<()>, Fault>` they would lie two deep.
 #[derive(Clone, Copy, PartialEq, Eq, Debug)]
 pub enum FlushAnswer {
     // All bytes taken are covered.

@@ -10,7 +10,7 @@ use arrayvec::ArrayVec;
 use writer::{Fault, FlushAnswer, WriteAnswer, Writer};
 
 impl PlanFull {
-    // The number that the refusal is known by.
+    // The refusal's number, by which the rules name it: `u8::from` would not say what number it is.
     pub fn code(&self) -> u8
         ensures value { result ≡ refusal_number self.now }
     {

@@ -2,11 +2,12 @@
 ghost use Rattle.std.specs.Prelude.{◌≤◌, length};
 
 use arrayvec::ArrayVec;
+use stream::limits::MAX_HANDLES;
 
-// No `impl Model` gives the line as its value: what calls it reads the bound, which a model hides.
+// No `impl Model` gives the line as its value: the proofs of its callers need the bound of 16, which a model hides.
 #[derive(Drop)]
 pub struct Lock {
-    queue: ArrayVec<usize, 16>,
+    queue: ArrayVec<usize, MAX_HANDLES>,
     ghost within: { length queue.items ≤ 16 },
 }
 

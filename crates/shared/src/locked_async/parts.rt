@@ -2,6 +2,7 @@
 use super::lock::Lock;
 use super::table::Table;
 
+// Its clauses say `parts_view S.view`, and it has no `impl Model`, whose value cannot name the bound's view.
 #[derive(Drop)]
 pub struct Parts<S> {
     pub(crate) stream: S,

@@ -6,6 +6,7 @@ ghost use Rattle.shared.specs.TableOf.{handles_of};
 use super::parts::Parts;
 
 // One output stream that several handles share. The queue for its lock holds just the handles that are Locking or Locked.
+// Its clauses say `shared_view S.view`, and it has no `impl Model`, whose value cannot name the bound's view.
 #[derive(Drop)]
 pub struct AsyncStdoutStream<S> {
     parts: Parts<S>,

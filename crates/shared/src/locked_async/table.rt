@@ -3,11 +3,12 @@ ghost use Rattle.std.specs.Prelude.{◌≤◌, length};
 
 use arrayvec::ArrayVec;
 use handles::StdoutHandle;
+use stream::limits::MAX_HANDLES;
 
-// No `impl Model` gives the handles as its value: what calls it reads the bound, which a model hides.
+// No `impl Model` gives the handles as its value: the proofs of its callers need the bound of 16, which a model hides.
 #[derive(Drop)]
 pub struct Table {
-    handles: ArrayVec<StdoutHandle, 16>,
+    handles: ArrayVec<StdoutHandle, MAX_HANDLES>,
     ghost few: { length handles.items ≤ 16 },
 }
 

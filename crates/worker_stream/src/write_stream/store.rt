@@ -4,12 +4,13 @@ use std::marker::Model;
 use stream::limits::MAX_BUDGET;
 
 // The most unfinished writes at a time. Their bytes are never more than a budget.
-const MAX_WRITES: usize = 256;
+pub const MAX_WRITES: usize = 256;
 
+// Two vectors, since the rest of the oldest write has to be one part, and nothing here may allocate.
 #[derive(Drop)]
 pub struct Store {
     bytes: ArrayVec<u8, MAX_BUDGET>,
-    lengths: ArrayVec<u16, MAX_WRITES>,
+    lengths: ArrayVec<usize, MAX_WRITES>,
     progress: usize,
 }
 

@@ -1,6 +1,6 @@
 // The worker stream. Relies on `store`.
-ghost use Rattle.std.specs.Prelude.{◌+◌, ◌≤◌};
-ghost use Rattle.worker_stream.specs.StoreView.{used};
+ghost use Rattle.std.specs.Prelude.{◌+◌, ◌-◌, ◌≤◌, length};
+ghost use Rattle.worker_stream.specs.StoreView.{oldest, used};
 
 use super::store::Store;
 use writer::Fault;
@@ -25,6 +25,8 @@ pub struct AsyncWriteStream<W> {
     status: Status,
     cancelled: bool,
     ghost fits: { used store + write_budget ≤ 4096 },
+    ghost few: { length store.unfinished ≤ 256 },
+    ghost along: { store.progress ≤ length (oldest store.unfinished) - 1 },
 }
 
 pub mod calls;

@@ -1,4 +1,4 @@
-// Joining the line, taking a grant and giving it back. Relies on nothing.
+// Joining the line, taking a grant and giving it back. Relies on `handles` for the refusal while the lock is held.
 ghost use Rattle.std.specs.Prelude.{◌≡◌, ◌<◌, true, false, [], ◌∷◌, ◌++◌, length, MatchOption, MatchResult, ◌==◌};
 ghost use Rattle.promises.specs.SharedView.{holds, without};
 ghost use Rattle.shared.specs.LockOf.{queue_of};

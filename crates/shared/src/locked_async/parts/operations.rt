@@ -20,8 +20,8 @@ pub(crate) fn write_or_wait<S: OutputStream>(
     }
 }
 
-// The first stage of a flush.
-// It differs from the second in the call alone; a closure for the call would need as many lines and a contract more.
+// The first stage of a flush. It differs from `end_flush` in the call alone; a closure for the call would need as
+// many lines and a contract more.
 pub(crate) fn begin_flush<S: OutputStream>(stream: &mut S) -> Result<Poll<()>, StreamError>
     ensures { StageOperation S.flushed (S.meaning (S.view stream.old)) (S.view stream.old) result (S.view stream.new) }
 {

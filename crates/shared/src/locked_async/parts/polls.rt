@@ -1,4 +1,4 @@
-// The polls of a handle: the grant is taken before the operation on the stream, and given back after it. Relies on `operations`.
+// The polls of a handle: the grant is taken before the operation on the stream, and given back after it. Relies on `operations`, the lock and the table.
 ghost use Rattle.std.specs.Prelude.{◌≡◌, ◌<◌, true, length, nat_lt};
 ghost use Rattle.promises.specs.Polls.{write_by, first_by, second_by, second_stage, poll_write, poll_flush, drop_handle};
 ghost use Rattle.promises.specs.SharedView.{handle, holds};
@@ -27,7 +27,7 @@ pub enum Acquired {
 // What these calls ask of one another (room in the line, a handle that is Locking, a holder) are conditions of their own:
 // as ghost fields they would have to hold between the two halves of a change to the line and to the table.
 impl<S: OutputStream> Parts<S> {
-    // The grant of a handle that is first in the queue.
+    // The grant of a handle that is first in the queue. A grant has to be given back, so no `map_or` may let one go.
     fn first(&self, number: usize) -> Acquired
         ensures { First number (queue_of self.now.lock) result }
     {
@@ -56,25 +56,26 @@ impl<S: OutputStream> Parts<S> {
     fn give_back<T: Copy>(
         &mut self,
         grant: Grant,
-        res: Result<Poll<T>, StreamError>,
-        done: bool,
-        ended: bool,
+        outcome: Result<Poll<T>, StreamError>,
+        mark_if_ready: bool,
+        mark_if_closed: bool,
     )
-        ensures { parts_view S.view self.new ≡ given_back res done ended grant.handle (parts_view S.view self.old) }
+        ensures { parts_view S.view self.new ≡ given_back outcome mark_if_ready mark_if_closed grant.handle (parts_view S.view self.old) }
     {
-        match res {
+        match outcome {
             Ok(Poll::Pending) => {
                 let mark = self.table.get(grant.handle()).mark;
                 self.table.settle(grant.handle(), HandleState::Locked, mark);
                 self.lock.keep(grant);
             }
             Ok(Poll::Ready(_)) => {
-                self.table.settle(grant.handle(), HandleState::Ready, done);
+                self.table
+                    .settle(grant.handle(), HandleState::Ready, mark_if_ready);
                 self.lock.hand_on(grant);
             }
             Err(_) => {
                 self.table
-                    .settle(grant.handle(), HandleState::Closed, ended);
+                    .settle(grant.handle(), HandleState::Closed, mark_if_closed);
                 self.lock.hand_on(grant);
             }
         }
@@ -164,7 +165,7 @@ impl<S: OutputStream> Parts<S> {
     pub(crate) fn drop_handle(&mut self, number: usize) -> Result<(), HandleError>
         ensures { Gives (drop_handle number (parts_view S.view self.old)) result (parts_view S.view self.new) }
     {
-        if let HandleState::Dropped = self.table.get(number).state {
+        if self.table.get(number).state == HandleState::Dropped {
             return Err(NoSuchHandle.into());
         }
         self.table.settle(number, HandleState::Dropped, false);
@@ -186,13 +187,13 @@ fn requested(bytes: &[u8]) -> Request
 
 // A closed stream answers the poll; a fault is passed on whole.
 fn unless_closed<T: Copy>(
-    res: Result<Poll<T>, StreamError>,
+    outcome: Result<Poll<T>, StreamError>,
     closed: T,
 ) -> Result<Poll<T>, HandleError>
-    ensures { result ≡ answered_by res closed }
+    ensures { result ≡ answered_by outcome closed }
 {
-    match res {
+    match outcome {
         Err(StreamError::Closed) => Ok(Poll::Ready(closed)),
-        _ => Ok(res?),
+        _ => Ok(outcome?),
     }
 }

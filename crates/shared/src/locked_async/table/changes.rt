@@ -1,4 +1,4 @@
-// Reading a handle, and changing one that is lent. Relies on nothing.
+// Reading a handle, and changing one that is lent. Relies on `handles` for what a handle is.
 ghost use Rattle.std.specs.Prelude.{◌≡◌, ◌<◌, false, length, replicate, slice_index_or, slice_set};
 ghost use Rattle.promises.specs.SharedView.{dropped};
 ghost use Rattle.handles.specs.declared.handle.HandleState.TheVariants.{Ready};
@@ -9,6 +9,7 @@ use super::Table;
 use arrayvec::ArrayVec;
 use handles::{HandleState, NoSuchHandle, StdoutHandle};
 use stream::Limits;
+use stream::limits::MAX_HANDLES;
 
 // The call of a poll, as far as the handle's state needs it.
 #[derive(Clone, Copy)]
@@ -30,7 +31,7 @@ pub enum Met {
 }
 
 // The handle's state and the call decide together; a handle that wants the lock is Locking from here on.
-pub(crate) fn ask(handle: &mut StdoutHandle, request: Request) -> Result<Met, NoSuchHandle>
+pub(crate) fn ask_handle(handle: &mut StdoutHandle, request: Request) -> Result<Met, NoSuchHandle>
     ensures told { result ≡ met handle.old.state request }
     ensures left { handle.new ≡ wanting result handle.old }
 {
@@ -53,7 +54,7 @@ impl Table {
     pub fn new(limits: Limits) -> Table
         ensures { handles_of result ≡ replicate limits.handles (record { state = Ready; mark = false }) }
     {
-        let mut handles = ArrayVec::from([StdoutHandle::default(); 16]);
+        let mut handles = ArrayVec::from([StdoutHandle::default(); MAX_HANDLES]);
         handles.truncate(limits.handles());
         Table { handles }
     }
@@ -81,7 +82,7 @@ impl Table {
         ensures left { handles_of self.new ≡ slice_set (handles_of self.old) number (wanting result (slice_index_or (handles_of self.old) number dropped)) }
     {
         match self.handles.get_mut(number) {
-            Some(handle) => ask(handle, request),
+            Some(handle) => ask_handle(handle, request),
             None => Err(NoSuchHandle),
         }
     }

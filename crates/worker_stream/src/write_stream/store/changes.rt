@@ -39,7 +39,7 @@ impl Store {
         requires { 0 < length self.now.unfinished }
         ensures { result ≡ length (rest self.now) }
     {
-        usize::from(self.lengths[0]) - self.progress
+        self.lengths[0] - self.progress
     }
 
     // One write more behind the others.
@@ -50,8 +50,7 @@ impl Store {
         ensures { self.new ≡ queued bytes.now self.old }
     {
         self.bytes.try_extend_from_slice(bytes).unwrap();
-        // A length of at most 4,096: the cast loses nothing, and `try_from` would have an error to answer.
-        self.lengths.push(bytes.len() as u16);
+        self.lengths.push(bytes.len());
     }
 
     // The next job; a write's part lies in this store.
@@ -59,7 +58,7 @@ impl Store {
         ensures { Next (work_left self.now.unfinished self.now.progress flush_pending) result }
     {
         match self.lengths.first() {
-            Some(&length) => Some(Job::Write(&self.bytes[self.progress..usize::from(length)])),
+            Some(&length) => Some(Job::Write(&self.bytes[self.progress..length])),
             None => flush_pending.then_some(Job::Flush),
         }
     }
@@ -78,9 +77,9 @@ impl Store {
         ensures value { result ≡ length (oldest self.old.unfinished) }
         ensures left { self.new ≡ popped self.old }
     {
-        let n = usize::from(self.lengths.remove(0));
+        let n = self.lengths.remove(0);
         let left = self.bytes.len() - n;
-        // `drain(..n)` leaves the same, and the benchmark runs a tenth longer with it.
+        // `drain(..n)` leaves the same, and the benchmark (bench/run) runs a tenth longer with it.
         self.bytes.copy_within(n.., 0);
         self.bytes.truncate(left);
         self.progress = 0;

@@ -66,7 +66,7 @@ impl<W: Writer> AsyncWriteStream<W> {
         self.status == Status::Alive
     }
 
-    // What check_write permits where it is not refused.
+    // What check_write answers on a stream that is alive.
     fn permitted(&self) -> usize
         ensures { result ≡ permitted (worker_view W.view self.now) }
     {
@@ -77,7 +77,7 @@ impl<W: Writer> AsyncWriteStream<W> {
         }
     }
 
-    // Is no fault stored? A stored one is taken away.
+    // A stored fault is taken away, and `?` carries it into the stream's error.
     fn take_fault(&mut self) -> Result<(), Fault>
         ensures { MatchResult result (λ _. (no_fault self.old.status ≡ None) × (self.new ≡ self.old)) (λ f. (self.old.status ≡ Faulted f) × (worker_view W.view self.new ≡ with_status ClosedStatus (worker_view W.view self.old))) }
     {

@@ -10,7 +10,8 @@ use super::{AsyncWriteStream, Status};
 use crate::write_stream::job::{Job, Turn};
 use writer::{Fault, FlushAnswer, WriteAnswer, Writer};
 
-// What the one call of the writer answered.
+// What the one call of the writer answered. A turn matches it at once; but the store and the writer are lent to the same
+// call in one function alone, and only an answer leaves that.
 #[derive(Clone, Copy)]
 pub enum WriterCall {
     // The oldest write is empty, and needs no call.

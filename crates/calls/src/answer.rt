@@ -1,4 +1,4 @@
-// What the calls of a shared stream answer. Relies on `handles` for the refusals.
+// What the calls of a shared stream answer. Relies on `handles` for the refusals and on `worker_stream` for a turn.
 use handles::{DirectError, HandleError, Poll};
 use worker_stream::write_stream::Turn;
 
