@@ -46,7 +46,8 @@ impl MemoryOutputPipe {
     pub fn into_inner(self) -> Vec<u8>
         ensures value { result.items ≡ self.held ++ self.room }
     {
-        self.buffer
+        let MemoryOutputPipe { buffer, .. } = self;
+        buffer
     }
 
     // How many bytes fit still.
