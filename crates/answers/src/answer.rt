@@ -24,7 +24,8 @@ pub enum Answer {
     Idle,
     Stopped,
     Failed,
-    // The call was refused, with the number of the reason: it is printed by that number, which the rules fix.
+    // The call was refused, with the number of the reason: the rules print just that. Refusals come from five types, and
+    // an enum over them would serve only to be numbered.
     Refused(u8),
     // The last operation of the writer failed.
     Fault(Fault),

@@ -74,7 +74,7 @@ impl<R> From<StreamError> for CallError<R> {
 }
 
 impl<R: Refusal> CallError<R> {
-    // The refusal's number.
+    // The refusal's number, as a method for the same reason.
     pub fn code(&self) -> u8
         ensures { result ≡ call_number R.number self.now }
     {

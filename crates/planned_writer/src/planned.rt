@@ -13,7 +13,7 @@ pub struct PlanFull;
 const MAX_ENTRIES: usize = 32;
 
 // The first `spent` of the entries are spent, and keep their places, since they count against the 32. There is no
-// `impl Model`: a refused entry leaves the spent entries too, which the view has forgotten.
+// `impl Model`: what a refused entry leaves would then say less, since the view forgets the spent entries.
 #[derive(Drop)]
 pub struct PlannedWriter<W> {
     inner: W,

@@ -6,7 +6,7 @@ ghost use Rattle.answers.specs.Printing.{printed};
 
 use answers::Answer;
 
-// The printed answer to a reply: the one public name for a conversion of `answers`.
+// The printed answer to a reply. The name stands for a conversion of `answers`: `Answer::from` in its place is no plainer.
 pub fn print(reply: calls::Answer) -> Answer
     ensures { result ≡ printed reply }
 {

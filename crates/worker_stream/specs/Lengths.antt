@@ -1,4 +1,4 @@
--- The sum of a list of lengths. Assumes nothing.
+-- The sum of a list of lengths, by its head: std's `sum` folds from the left. Assumes nothing.
 --   sum_of   the sum
 use Rattle.std.specs.Prelude.{ℕ, ◌+◌, List, [], ◌∷◌}
 

@@ -19,7 +19,8 @@ pub enum WriteAnswer {
     Failed(Fault),
 }
 
-// The answer to a flush: three again, one by one, since in a `Result<Poll<()>, Fault>` they would lie two deep.
+// The answer to a flush: three again, one by one, since in a `Result<Poll<()>, Fault>` they would lie two deep. One type
+// for both answers would lose the rules' words `Took` and `Done`.
 #[derive(Clone, Copy, PartialEq, Eq, Debug)]
 pub enum FlushAnswer {
     // All bytes taken are covered.

@@ -4,7 +4,7 @@ ghost use Rattle.std.specs.Prelude.{◌≤◌, length};
 use arrayvec::ArrayVec;
 use stream::limits::MAX_HANDLES;
 
-// No `impl Model` gives the line as its value: the proofs of its callers need the bound of 16, which a model hides.
+// No `impl Model` gives the line as its value: it would hide the bound of 16, which each caller's proof would need to be told.
 #[derive(Drop)]
 pub struct Lock {
     queue: ArrayVec<usize, MAX_HANDLES>,

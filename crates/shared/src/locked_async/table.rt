@@ -5,7 +5,7 @@ use arrayvec::ArrayVec;
 use handles::StdoutHandle;
 use stream::limits::MAX_HANDLES;
 
-// No `impl Model` gives the handles as its value: the proofs of its callers need the bound of 16, which a model hides.
+// No `impl Model` gives the handles as its value: it would hide the bound of 16, which each caller's proof would need to be told.
 #[derive(Drop)]
 pub struct Table {
     handles: ArrayVec<StdoutHandle, MAX_HANDLES>,

@@ -66,7 +66,7 @@ impl Table {
         self.handles.len()
     }
 
-    // A handle by its number; one that there is not reads as dropped, as the rules have it: no `Option` says more.
+    // A handle by its number. The rules read one that there is not as dropped; an `Option` would have each caller say so.
     pub fn get(&self, number: usize) -> StdoutHandle
         ensures { result ≡ slice_index_or (handles_of self.now) number dropped }
     {

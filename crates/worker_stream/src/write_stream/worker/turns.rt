@@ -10,8 +10,8 @@ use super::{AsyncWriteStream, Status};
 use crate::write_stream::job::{Job, Turn};
 use writer::{Fault, FlushAnswer, WriteAnswer, Writer};
 
-// What the one call of the writer answered. A turn matches it at once; but the store and the writer are lent to the same
-// call in one function alone, and only an answer leaves that.
+// What the one call of the writer answered. A turn matches it at once; but what follows takes the whole stream, so it has to
+// wait until the part of the store that was lent to that call is given back.
 #[derive(Clone, Copy)]
 pub enum WriterCall {
     // The oldest write is empty, and needs no call.
