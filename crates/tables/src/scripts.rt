@@ -4,6 +4,7 @@ use canonical_form::canonical_command;
 use handles::Call;
 use planned_writer::PlanEntry;
 use script::{Command, Lines, next_line, parse_command, parse_limits};
+use session::script_text;
 use std::process::Abort;
 use std::test::Fail;
 use stream::StreamError;
@@ -114,5 +115,12 @@ fn canonical_text_is_read_back(rt: HostRuntime) -> Result<(), Fail> {
     let command = parse_command(b"W 007 a").ok_or("misfit")?;
     let text = canonical_command(rt.alloc(), &command)?;
     assert!(rt; text.as_slice() == b"W 7 a".as_slice());
+    Ok(())
+}
+
+#[test]
+fn a_script_prints_its_answers(rt: HostRuntime) -> Result<(), Fail> {
+    let text = script_text(rt.alloc(), b"4 1\nw ab\nc\nf\nt\nt\nc\n")?;
+    assert!(rt; text.as_str() == "ok\n2\nok\nfinished 2\nflushed\n4\n");
     Ok(())
 }
