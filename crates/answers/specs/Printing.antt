@@ -4,7 +4,7 @@
 --   direct_refused           a refusal of a direct call
 --   handle_refused           a refusal of a handle's call
 --   turn_printed             a turn
---   permit_printed           what a handle's write answers
+--   write_printed           what a handle's write answers
 --   flush_printed            what a handle's flush answers
 --   printed                  a reply of the shared stream
 --   NothingOrBlank           a text is empty or begins with a blank
@@ -52,9 +52,9 @@ turn_printed TurnIdle = Idle
 turn_printed TurnNotYet = Wait
 turn_printed TurnFailed = Failed
 
-abbrev pub permit_printed : Poll ℕ → Answer
-permit_printed (Ready n) = Count n
-permit_printed Pending = Wait
+abbrev pub write_printed : Poll ℕ → Answer
+write_printed (Ready n) = Count n
+write_printed Pending = Wait
 
 abbrev pub flush_printed : Poll (Unit {0}) → Answer
 flush_printed (Ready x) = Done
@@ -69,11 +69,9 @@ printed (Flush (Ok x)) = Accepted
 printed (Flush (Err e)) = direct_refused e
 printed Cancel = Accepted
 printed (Turned word) = turn_printed word
-printed (PollWrite (Ok (Ready n))) = Count n
-printed (PollWrite (Ok Pending)) = Wait
+printed (PollWrite (Ok poll)) = write_printed poll
 printed (PollWrite (Err e)) = handle_refused e
-printed (PollFlush (Ok (Ready x))) = Done
-printed (PollFlush (Ok Pending)) = Wait
+printed (PollFlush (Ok poll)) = flush_printed poll
 printed (PollFlush (Err e)) = handle_refused e
 printed (DropHandle (Ok x)) = Accepted
 printed (DropHandle (Err e)) = handle_refused e

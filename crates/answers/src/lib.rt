@@ -1,4 +1,4 @@
-// What a line of a script answers, what is answered to a value, a refusal, a turn or a reply, and the line that is printed of an answer.
+// What a line of a script answers, the answer that a value, a refusal, a turn or a reply becomes, and the line that is printed of it.
 #![tactic(auto)]
 
 pub mod answer;

@@ -1,6 +1,6 @@
 // What is printed of a call's value, and of a result. Relies on `handles` for the answer of a poll.
 ghost use Rattle.std.specs.Prelude.{◌≡◌, MatchResult};
-ghost use Rattle.answers.specs.Printing.{permit_printed, flush_printed};
+ghost use Rattle.answers.specs.Printing.{write_printed, flush_printed};
 ghost use Rattle.answers.specs.declared.answer.Answer.TheVariants.{Accepted, Count};
 
 use crate::answer::Answer;
@@ -24,7 +24,7 @@ impl From<usize> for Answer {
 }
 
 impl From<Poll<usize>> for Answer {
-    ghost from_gives = { λ poll answer. answer ≡ permit_printed poll };
+    ghost from_gives = { λ poll answer. answer ≡ write_printed poll };
 
     fn from(poll: Poll<usize>) -> Answer {
         match poll {

@@ -16,7 +16,7 @@ fn answer_to(pipe: &mut MemoryOutputPipe, line: &[u8]) -> Answer {
 }
 
 // The lines after the first, with how many bytes the pipe holds beside each answer.
-pub fn play(rt: &HostRuntime, capacity: usize, lines: &[&[u8]]) -> anyhow::Result<()> {
+pub(crate) fn play(rt: &HostRuntime, capacity: usize, lines: &[&[u8]]) -> anyhow::Result<()> {
     let mut pipe = MemoryOutputPipe::new(vec![in rt.alloc(); 0u8; capacity]?);
     for line in lines {
         let answer = answer_to(&mut pipe, *line);

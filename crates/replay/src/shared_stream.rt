@@ -62,7 +62,7 @@ fn as_command(line: &[u8]) -> &[u8] {
 }
 
 // The lines after the first.
-pub fn play(rt: &HostRuntime, limits: Limits, lines: &[&[u8]]) -> anyhow::Result<()> {
+pub(crate) fn play(rt: &HostRuntime, limits: Limits, lines: &[&[u8]]) -> anyhow::Result<()> {
     let mut reading = Reading::new(rt.alloc())?;
     for line in lines {
         reading.read(as_command(*line))?;

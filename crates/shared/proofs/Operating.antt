@@ -1,7 +1,6 @@
 -- What a poll meets of a stream, by its meaning. Assumes nothing.
 use Rattle.std.proofs.Common.{◌≡◌, ℕ, zero, suc, ◌<◌, ◌≤◌, min, cond, List, length, take, Ok, Err, Result, sym, refl, ap, ◌∙◌, subst, arith, lt-ltb, length-take}
-use Rattle.std.proofs.Math.Decide.{dec_le}
-use Rattle.std.proofs.lemmas.List.{take_all}
+use Rattle.std.proofs.lemmas.List.{take_min}
 use Rattle.stream.specs.declared.error.StreamError.{StreamError}
 use Rattle.stream.specs.declared.error.StreamError.TheVariants.{LastOperationFailed, Closed, Trap}
 use Rattle.stream.specs.Meaning.{Meaning, faulted, closed, open_with, permit}
@@ -11,12 +10,6 @@ use Rattle.stream.specs.WritePermitted.{counted, first_answer, permitted_answer,
 use Rattle.handles.specs.declared.handle.Poll.{Poll}
 use Rattle.handles.specs.declared.handle.Poll.TheVariants.{Ready, Pending}
 use Rattle.shared.specs.Operations.{WriteOperation}
-
-impossible : {P : Type 0} → ◌≡◌ {A = ℕ} 0 1 → P
-impossible z = absurd (omega arith)
-
-first_bytes : (k : ℕ) (bytes : List ℕ) → take (min k (length bytes)) bytes ≡ take k bytes
-first_bytes k bytes = elim (dec_le k (length bytes)) [ yes h ↦ ap (λ n. take n bytes) (omega arith) | no h ↦ (ap (λ n. take n bytes) (omega arith) ∙ take_all (length bytes) bytes (omega arith)) ∙ sym (take_all k bytes (omega arith)) ]
 
 -- no byte written means not yet
 abbrev pub polled : Result ℕ StreamError → Result (Poll ℕ) StreamError
@@ -36,7 +29,7 @@ module _
 
       go : (r : Result (Unit {0}) StreamError) → accepts s bytes ≡ r → Honoured meaning turned s s r → accepts s bytes ≡ Ok tt
       go (Ok x) e h = e
-      go (Err (LastOperationFailed f)) e h = let u = h.untold in impossible (cc)
+      go (Err (LastOperationFailed f)) e h = let u = h.untold in absurd (cc)
       go (Err Closed) e h = absurd h
       go (Err (Trap t)) e h = absurd h
 
@@ -50,7 +43,7 @@ module _
       let ok : r ≡ Ok (suc j) = told ∙ ap (λ b. cond b (counted (suc j) (accepts s (take (suc j) bytes))) (Ok 0)) some_bytes ∙ ap (counted (suc j)) (accepted s (suc n) (take (suc j) bytes) is (omega arith) few) in
       record {
         told = ap polled ok ∙ ap (λ i. Ok (Ready i)) e;
-        after = left ∙ ap (λ b. cond b (wrote s (take (suc j) bytes)) s) some_bytes ∙ ap (wrote s) (ap (λ i. take i bytes) e ∙ first_bytes (suc n) bytes);
+        after = left ∙ ap (λ b. cond b (wrote s (take (suc j) bytes)) s) some_bytes ∙ ap (wrote s) (ap (λ i. take i bytes) e ∙ take_min (suc n) bytes);
       }
 
   pub written : (s t : V) (bytes : List ℕ) (r : Result ℕ StreamError) → 0 < length bytes → r ≡ permitted_answer accepts (permit (meaning s)) (checked s) bytes → t ≡ permitted_left wrote (permit (meaning s)) (checked s) bytes

@@ -14,16 +14,13 @@ use Rattle.shared.specs.declared.locked_async.table.changes.Request.TheVariants.
 use Rattle.shared.specs.Acquiring.{is_open, Entered}
 use Rattle.shared.proofs.Granted.{write_again, second_again, first_again}
 
-impossible : {P : Type 0} → ◌≡◌ {A = ℕ} 0 1 → P
-impossible z = absurd (omega arith)
-
 module _ {S X : Type 0} (s : SharedView S) (when_closed when_open : Outcome (HandleResult X) S) where
   by_open : (st : HandleState) → is_open st ≡ true → by_state st s when_closed when_open ≡ when_open
   by_open Ready o = refl
   by_open Locking o = refl
   by_open Locked o = refl
-  by_open Closed o = impossible (cc)
-  by_open Dropped o = impossible (cc)
+  by_open Closed o = absurd (cc)
+  by_open Dropped o = absurd (cc)
 
 gives : {R S : Type 0} {o : Outcome R S} (p : Outcome R S) (r : R) (t : SharedView S) → p ≡ o → Gives o r t → Gives p r t
 gives p r t e g = record { told = g.told ∙ ap (λ o. o.answer) (sym e); left = g.left ∙ ap (λ o. o.left) (sym e) }
@@ -77,7 +74,7 @@ shorter h (x ∷ q) = let ih = shorter h q in go (eqb x h) ih
     go false k = omega arith
 
 holder_leaves : (h : ℕ) (q : List ℕ) → holds h q ≡ true → length (without h q) < length q
-holder_leaves h [] e = impossible (cc)
+holder_leaves h [] e = absurd (cc)
 holder_leaves h (x ∷ q) e = rw e (let k = shorter h q in omega arith)
 
 pub room_again : {S : Type 0} (h : ℕ) (s t : SharedView S) (mark ended : Bool) → holds h s.queue ≡ true → length s.queue ≤ 16 → t ≡ given_back {X = Unit {0}} (Ok (Answer tt)) mark ended h s → length t.queue < 16

@@ -15,9 +15,6 @@ use Rattle.shared.specs.LockOf.{queue_of}
 use Rattle.shared.specs.TableOf.{handles_of}
 use Rattle.shared.specs.SharedOf.{shared_view}
 
-impossible : {P : Type 0} → ◌≡◌ {A = ℕ} 0 1 → P
-impossible z = absurd (omega arith)
-
 abbrev pub lock_of : {S : Type 0} → SharedView S → Lock
 lock_of s = record { queue = s.queue; handles = s.handles }
 
@@ -84,10 +81,10 @@ module _ {S : Type 0} (n h : ℕ) where
 
       go : (st : HandleState) → (handle h s).state ≡ st → QueueInvariant n (lock_of (by_state {X = Unit {0}} st s (outcome (Ok (tt {0})) (leaves h s)) (outcome (Ok (tt {0})) (leaves h s))).left)
       go Dropped e = k
-      go Closed e = other Closed e (λ z. impossible (cc))
-      go Ready e = other Ready e (λ z. impossible (cc))
-      go Locking e = other Locking e (λ z. impossible (cc))
-      go Locked e = other Locked e (λ z. impossible (cc))
+      go Closed e = other Closed e (λ z. absurd (cc))
+      go Ready e = other Ready e (λ z. absurd (cc))
+      go Locking e = other Locking e (λ z. absurd (cc))
+      go Locked e = other Locked e (λ z. absurd (cc))
 
 -- a Ready handle finds room in the line
 pub room_to_join : (n h : ℕ) (l : Lock) → QueueInvariant n l → n ≤ 16 → (get_or l.handles h dropped).state ≡ Ready → length l.queue < 16
