@@ -1,6 +1,7 @@
 -- What a memory pipe is, and what its calls answer and leave. Assumes nothing.
 --   PipeView        the bytes held and the bytes of the buffer past them: the capacity is the sum of their lengths
 --   divided         a buffer of which the first so many bytes are held
+--   pipe_view       the view of a pipe
 --   fresh           a pipe just made of these bytes: none is held
 --   has_room        the question before every call: are fewer bytes held than the capacity?
 --   refusal         the refusal of check_write and flush, if there is one
@@ -9,10 +10,11 @@
 --   accept          an accepted write: its bytes are held behind the others, and the rest of the buffer stays
 --   left_by         what a call leaves: a refusal changes nothing
 --   checked, accepts, wrote, flushed   each call in those words
-use Rattle.std.specs.Prelude.{ℕ, cond, List, [], ◌∷◌, ◌++◌, length, take, drop, Some, None, Option, Result, nat_le, nat_lt}
+use Rattle.std.specs.Prelude.{ℕ, cond, List, [], ◌∷◌, ◌++◌, length, take, drop, Some, None, vec_items, Option, Result, nat_le, nat_lt}
 use Rattle.stream.specs.declared.error.StreamError.{StreamError}
 use Rattle.stream.specs.declared.error.StreamError.TheVariants.{Closed, Trap}
 use Rattle.stream.specs.declared.error.Trap.TheVariants.{NoRoom}
+use Rattle.memory_pipe.specs.declared.pipe.MemoryOutputPipe.{MemoryOutputPipe}
 use Rattle.stream.specs.Meaning.{Meaning, closed, open_with}
 use Rattle.stream.specs.Questions.{asks, first_no, answered}
 
@@ -22,6 +24,9 @@ pub record PipeView : Type 0 where
 
 abbrev pub divided : ℕ → List ℕ → PipeView
 divided held buffer = record { held = take held buffer; room = drop held buffer }
+
+abbrev pub pipe_view : MemoryOutputPipe → PipeView
+pipe_view p = divided p.held (vec_items p.buffer)
 
 abbrev pub fresh : List ℕ → PipeView
 fresh bytes = record { held = []; room = bytes }
