@@ -1,11 +1,11 @@
 -- Lists of bytes cut into parts whose lengths add up to theirs. Assumes nothing.
-use Rattle.std.proofs.Common.{◌≡◌, ℕ, suc, ◌-◌, ◌≤◌, Bool, List, [], ◌∷◌, ◌++◌, length, get_or, take, drop, slice_get, Some, refl, ap, ◌∙◌, arith, length-drop, Bor}
+use Rattle.std.proofs.Common.{◌≡◌, ℕ, suc, ◌-◌, ◌<◌, ◌≤◌, Bool, List, [], ◌∷◌, ◌++◌, length, get_or, take, drop, slice_get, Some, refl, ap, ◌∙◌, arith, length-drop, Bor}
 use Rattle.std.proofs.lemmas.List.{take_all, drop_all, take-append-le, drop-append-le, length-take-le}
 use Rattle.std.proofs.lemmas.List.Sums.{sum_by-cons}
 use Rattle.std.proofs.lemmas.Slice.{between_is}
 use Rattle.std.specs.List.{sum, sum_by}
 use Rattle.worker_stream.specs.declared.write_stream.job.Job.TheVariants.{Write}
-use Rattle.worker_stream.specs.StoreView.{cuts}
+use Rattle.worker_stream.specs.StoreView.{cuts, oldest, IsStored}
 use Rattle.worker_stream.specs.Work.{work_left, Next}
 
 first_le : (n : ℕ) (ns bytes : List ℕ) → sum (n ∷ ns) ≡ length bytes → n ≤ length bytes
@@ -32,6 +32,16 @@ cuts_push [] (b ∷ bytes) part whole = absurd (omega arith)
 cuts_push (n ∷ ns) bytes part whole =
     let fits : n ≤ length bytes = first_le n ns bytes whole in
     rw (take-append-le n bytes part fits, drop-append-le n bytes part fits, cuts_push ns (drop n bytes) part (others_whole n ns bytes whole))
+
+-- the first part, and what is left without it
+pub first_cut : (ns bytes : List ℕ) → sum ns ≡ length bytes → 0 < length ns → length (oldest (cuts ns bytes)) ≡ get_or ns 0 0
+first_cut [] bytes whole some = absurd (omega arith)
+first_cut (n ∷ ns) bytes whole some = length-take-le n bytes (first_le n ns bytes whole)
+
+pub without_first : (ns bytes : List ℕ) → sum ns ≡ length bytes → length bytes ≤ 4096 → 0 < length ns → IsStored (drop 1 ns) (drop (get_or ns 0 0) bytes) 0
+without_first [] bytes whole within some = absurd (omega arith)
+without_first (n ∷ ns) bytes whole within some =
+    record { whole = others_whole n ns bytes whole; along = omega arith; within = omega (arith, length-drop n bytes) }
 
 pub ruleset cut_laws = (length_cuts, used_cuts, cuts_push)
 

@@ -6,11 +6,12 @@ use stream::limits::MAX_BUDGET;
 // The most unfinished writes at a time. Their bytes are never more than a budget.
 pub const MAX_WRITES: usize = 256;
 
-// Two vectors, since the rest of the oldest write has to be one part, and nothing here may allocate.
+// Two vectors, since the rest of the oldest write has to be one part, and nothing here may allocate. A length is at most a
+// budget, so two bytes hold it.
 #[derive(Drop)]
 pub struct Store {
     bytes: ArrayVec<u8, MAX_BUDGET>,
-    lengths: ArrayVec<usize, MAX_WRITES>,
+    lengths: ArrayVec<u16, MAX_WRITES>,
     progress: usize,
 }
 

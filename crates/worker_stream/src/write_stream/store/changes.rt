@@ -21,7 +21,8 @@ impl Store {
     // How many writes are unfinished.
     #[tactic(auto, using(crate::proofs::Cuts::cut_laws))]
     pub fn len(&self) -> usize
-        ensures { result ≡ length self.now.unfinished }
+        ensures value { result ≡ length self.now.unfinished }
+        ensures few { result ≤ 256 }
     {
         self.lengths.len()
     }
@@ -39,7 +40,7 @@ impl Store {
         requires { 0 < length self.now.unfinished }
         ensures { result ≡ length (rest self.now) }
     {
-        self.lengths[0] - self.progress
+        usize::from(self.lengths[0]) - self.progress
     }
 
     // One write more behind the others.
@@ -50,7 +51,7 @@ impl Store {
         ensures { self.new ≡ queued bytes.now self.old }
     {
         self.bytes.try_extend_from_slice(bytes).unwrap();
-        self.lengths.push(bytes.len());
+        self.lengths.push(u16::try_from(bytes.len()).unwrap());
     }
 
     // The next job; a write's part lies in this store.
@@ -58,7 +59,7 @@ impl Store {
         ensures { Next (work_left self.now.unfinished self.now.progress flush_pending) result }
     {
         match self.lengths.first() {
-            Some(&length) => Some(Job::Write(&self.bytes[self.progress..length])),
+            Some(&length) => Some(Job::Write(&self.bytes[self.progress..usize::from(length)])),
             None => flush_pending.then_some(Job::Flush),
         }
     }
@@ -77,9 +78,11 @@ impl Store {
         ensures value { result ≡ length (oldest self.old.unfinished) }
         ensures left { self.new ≡ popped self.old }
     {
-        let n = self.lengths.remove(0);
+        let n = usize::from(self.lengths[0]);
         let left = self.bytes.len() - n;
-        // `drain(..n)` leaves the same, and the benchmark (bench/run) runs a tenth longer with it.
+        // `remove(0)` and `drain(..n)` leave the same, and take longer (docs/SPEED.md).
+        self.lengths.copy_within(1.., 0);
+        self.lengths.pop();
         self.bytes.copy_within(n.., 0);
         self.bytes.truncate(left);
         self.progress = 0;
