@@ -12,4 +12,5 @@ returns-in_err-i c =
 pub returns : goal.returns
 returns c =
     let some : c.position.result ≡ position (λ b. b == c.args.mark) c.args.text.now = position_from_yields_List _ _ _ _ c.position.ensures.ran (YieldsList-from_slice c.args.text.now cc) (λ x b q k. search (rules, tests)) in
-    record { value = split_at c.args.mark c.args.text.now (Some c.in_ok-i.i) (sym c.in_ok-i.was ∙ some) }
+    let parts_are = split_at c.args.mark c.args.text.now (Some c.in_ok-i.i) (sym c.in_ok-i.was ∙ some) in
+    record { value = search (rules, parts_are) }
