@@ -1,14 +1,15 @@
-// Plays the script in a file. Relies on `session` for the text that a script prints.
+// Plays the script in a file. Relies on `session` for the answers of a script.
 #![tactic(auto)]
 
-use session::script_text;
+use session::run_script;
 use std::fs;
 
-// Prints the file's name on a line, and then what its script prints.
+// Prints the file's name on a line, and then each answer of its script, on a line of its own.
 pub fn play_file(rt: &HostRuntime, path: &str) -> anyhow::Result<()> {
     let text = fs::read(rt, path)?;
     println!(rt; "{path}")?;
-    let printed = script_text(rt.alloc(), &text)?;
-    print!(rt; "{printed}")?;
+    for answer in &run_script(rt.alloc(), &text)? {
+        println!(rt; "{answer}")?;
+    }
     Ok(())
 }

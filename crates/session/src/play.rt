@@ -2,6 +2,7 @@
 ghost use Rattle.std.specs.Prelude.{◌≡◌, List, [], ◌∷◌, Option, IfOk};
 ghost use Rattle.std.specs.Slice.Iter.{iter_rest};
 ghost use Rattle.script.specs.Lines.{lines};
+ghost use Rattle.answers.specs.Answers.{answer_lines};
 ghost use Rattle.answers.specs.declared.answer.Answer.{Answer};
 ghost use Rattle.script_reading.specs.Reading.{lines_read, unread};
 ghost use Rattle.script_reading.specs.ReadingOf.{read_of};
@@ -70,11 +71,12 @@ fn play(heap: Global, limits: Limits, text: &[u8]) -> Result<Vec<Answer>, AllocE
     merge(heap, &slots, &outcome.answers)
 }
 
-// What a script prints, one answer a line.
-#[tactic(auto, using(crate::proofs::Playing::one_each))]
+// What a script prints, one answer a line: their texts, each with a newline, are the whole text that it prints.
+#[tactic(auto, using(crate::proofs::Playing::one_each, crate::proofs::Playing::prints))]
 pub fn run_script(heap: Global, text: &[u8]) -> Result<Vec<Answer>, AllocError>
     ensures answers { IfOk result (λ v. ScriptAnswers (lines text.now) v.items) }
     ensures each { IfOk result (λ v. OneEach (lines text.now) v.items) }
+    ensures printed { IfOk result (λ v. ScriptPrints (lines text.now) (answer_lines v.items)) }
 {
     let Some((first, rest)) = next_line(text) else {
         return Ok(vec![in heap; Answer::Misfit]?);
