@@ -80,10 +80,12 @@ impl Store {
     {
         let n = usize::from(self.lengths[0]);
         let left = self.bytes.len() - n;
-        // `remove(0)` and `drain(..n)` leave the same, and take longer (docs/SPEED.md).
-        self.lengths.copy_within(1.., 0);
+        if self.lengths.len() > 1 {
+            // `remove(0)` and `drain(..n)` leave the same, and take longer (docs/SPEED.md).
+            self.lengths.copy_within(1.., 0);
+            self.bytes.copy_within(n.., 0);
+        }
         self.lengths.pop();
-        self.bytes.copy_within(n.., 0);
         self.bytes.truncate(left);
         self.progress = 0;
         n
