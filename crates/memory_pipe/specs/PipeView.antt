@@ -1,6 +1,5 @@
 -- What a memory pipe is, and what its calls answer and leave. Assumes nothing.
 --   PipeView        the bytes held and the bytes of the buffer past them: the capacity is the sum of their lengths
---   divided         a buffer of which the first so many bytes are held
 --   pipe_view       the view of a pipe
 --   fresh           a pipe just made of these bytes: none is held
 --   has_room        the question before every call: are fewer bytes held than the capacity?
@@ -22,11 +21,8 @@ pub record PipeView : Type 0 where
   pub held : List ℕ
   pub room : List ℕ
 
-abbrev pub divided : ℕ → List ℕ → PipeView
-divided held buffer = record { held = take held buffer; room = drop held buffer }
-
 abbrev pub pipe_view : MemoryOutputPipe → PipeView
-pipe_view p = divided p.held (vec_items p.buffer)
+pipe_view p = record { held = take p.held (vec_items p.buffer); room = drop p.held (vec_items p.buffer) }
 
 abbrev pub fresh : List ℕ → PipeView
 fresh bytes = record { held = []; room = bytes }

@@ -11,8 +11,7 @@ use Rattle.script.specs.Commands.{CommandView, plan}
 use Rattle.script.specs.Parsing.{parsed, limits}
 use Rattle.script_reading.specs.Reading.{Read, unread, plans, plans_if, reads, read_line, lines_read}
 use Rattle.session.specs.Merging.{merged}
-use Rattle.answers.specs.Answers.{answer_lines}
-use Rattle.session.specs.Scripts.{PlayedIf, AfterFirst, ScriptAnswers, NotRefused, OneEach, ScriptPrints}
+use Rattle.session.specs.Scripts.{PlayedIf, AfterFirst, ScriptAnswers, NotRefused, OneEach}
 
 -- each line has one slot, and each slot one answer
 plan_slot : (cs : List CallView) (entry : PlanEntry) (r : Read) → length (plans cs entry r).slots ≡ length r.slots + 1
@@ -53,6 +52,3 @@ one_each (first ∷ more) answers h = go (limits first) h
     go : (o : Option (ℕ × ℕ)) → AfterFirst o more answers → NotRefused o → length answers ≡ length more
     go None p e = absurd e
     go (Some (budget, handles)) p e = by_refusal (refusal budget handles) budget handles p e
-
-pub prints : (ls : List (List ℕ)) (answers : List Answer) → ScriptAnswers ls answers → ScriptPrints ls (answer_lines answers)
-prints ls answers h = record { answers = answers; answered = h; each = one_each ls answers h; printed = refl }

@@ -72,7 +72,7 @@ fn play(heap: Global, limits: Limits, text: &[u8]) -> Result<Vec<Answer>, AllocE
 }
 
 // What a script prints, one answer a line: their texts, each with a newline, are the whole text that it prints.
-#[tactic(auto, using(crate::proofs::Playing::one_each, crate::proofs::Playing::prints))]
+#[tactic(auto, using(crate::proofs::Playing::one_each))]
 pub fn run_script(heap: Global, text: &[u8]) -> Result<Vec<Answer>, AllocError>
     ensures answers { IfOk result (λ v. ScriptAnswers (lines text.now) v.items) }
     ensures each { IfOk result (λ v. OneEach (lines text.now) v.items) }

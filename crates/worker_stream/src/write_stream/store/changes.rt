@@ -73,6 +73,7 @@ impl Store {
     }
 
     // The oldest write leaves the store, whose other writes move to its start.
+    #[tactic(auto, using(crate::proofs::Cuts::first_cut, crate::proofs::Cuts::without_first))]
     pub(crate) fn pop(&mut self) -> usize
         requires { 0 < length self.old.unfinished }
         ensures value { result ≡ length (oldest self.old.unfinished) }
